@@ -27,6 +27,8 @@ use Rattle.trace_writer.specs.OwnSteps.{IsQuiet}
 use Rattle.trace_writer.specs.Site.{IsRoute}
 use Rattle.service_core.specs.declared.service.ServiceCore.{ServiceCore}
 use Rattle.service_core.specs.Agreement.{spec_at, no_writer}
+use Rattle.trace_writer.specs.Answered.{KeepsCompleted}
+use Rattle.trace_writer.proofs.holding.Answering.{works_keep_completed}
 use Rattle.replay_model.specs.Does.{MayNeedChunk, Notes, Wrote, dropped_call, policy_of}
 use Rattle.replay_host.specs.declared.helper.Collecting.{Collecting}
 use Rattle.replay_host.specs.Asking.{IsReadyFor, AreReady, asked_at, noted_as, IsCalled, KeepsService, DoesAsk}
@@ -222,8 +224,12 @@ module _ {T W S : Type 0} (means : Meaning T W S) (laws : AreLaws means) (call :
       work.0,
       work.1,
       record {
+        stopped = called.stopped;
         works = work.2.works;
         notes = by_stop called.stopped refl;
+        keeps = subst (λ (v : WriterView). KeepsCompleted (writer was place).begun v.begun) (sym row_new)
+            (subst (λ (v : WriterView). KeepsCompleted v.begun (means.view new after.seat).begun) (sym row_old)
+            (works_keep_completed means (route_of core) (Helps means) called.works));
         wrote = subst (λ (v : WriterView). Wrote (means.setup old) place v) (sym row_new)
             (wrote (means.setup old) place (means.view new after.seat) after.writer agrees called.going laid
             (subst (λ (p : ℕ). HasProducer (means.setup old) p) (ap (λ (s : WriterSpec). s.producer) spec_is) seated.agrees.writes.route.producer));
@@ -234,6 +240,7 @@ module _ {T W S : Type 0} (means : Meaning T W S) (laws : AreLaws means) (call :
         begins = record {
           setup_is = refl;
           place_is = place_is;
+          sits = seated.sits;
           sit = all_sit means old cores helper.service core stands;
           serves = stands.served.serves;
           producer = producer_is;
@@ -267,17 +274,16 @@ module _ {T W S : Type 0} (means : Meaning T W S) (laws : AreLaws means) (call :
         may_need (inl may) is = may
         may_need (inr quiet) is = absurd (true≢false (sym is ∙ quiet.0))
 
-        by_stop : (stopped : Bool) → called.stopped ≡ stopped → Notes (means.setup old) place call was work.0
+        by_stop : (stopped : Bool) → called.stopped ≡ stopped → Notes (means.setup old) place call stopped was work.0
         by_stop false is =
-            inl (noted (call ∷ []) (ap (λ (b : Bool). noted_as b (route_of core).spec.policy call) is ∙ noted_whole (route_of core).spec.policy call proper))
-        by_stop true is =
-            inr (
-              noted (dropped_call call) (ap (λ (b : Bool). noted_as b (route_of core).spec.policy call) is ∙ noted_lost (route_of core).spec.policy call (called.drops is)),
-              may_need called.asks is,
-              ap (λ (s : WriterSpec). loses s.policy) (sym spec_is) ∙ called.drops is,
-              work.2.full is,
-              lost_behind is,
-            )
+            noted (call ∷ []) (ap (λ (b : Bool). noted_as b (route_of core).spec.policy call) is ∙ noted_whole (route_of core).spec.policy call proper)
+        by_stop true is = (
+          noted (dropped_call call) (ap (λ (b : Bool). noted_as b (route_of core).spec.policy call) is ∙ noted_lost (route_of core).spec.policy call (called.drops is)),
+          may_need called.asks is,
+          ap (λ (s : WriterSpec). loses s.policy) (sym spec_is) ∙ called.drops is,
+          work.2.full is,
+          lost_behind is,
+        )
           where
             -- its last claims were rounds in vain
             lost_behind : called.stopped ≡ true

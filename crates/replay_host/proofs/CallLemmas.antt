@@ -99,6 +99,7 @@ quiet_called means needs helps call helper old core new after quiet agrees going
     seat_stays = quiet.step.seat_stays;
     place_stays = quiet.step.place_stays;
     writers_stay = quiet.step.writers_stay;
+    letters_stay = quiet.step.letters_stay;
   };
   stopped = false;
   drops = λ never. absurd (let wrong : false ≡ true = never in cc);

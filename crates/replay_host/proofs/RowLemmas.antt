@@ -1,8 +1,8 @@
 -- From the seats of a table to the world that it tells: what a step leaves of views it leaves of the world's rows.
-use Rattle.std.proofs.Common.{◌≡◌, ◌≢◌, ◌∙◌, ℕ, ◌<◌, ◌≤◌, inl, inr, sym, ap, subst, length, Some}
+use Rattle.std.proofs.Common.{◌≡◌, ◌≢◌, ◌∙◌, ℕ, ◌<◌, ◌≤◌, List, ◌++◌, inl, inr, refl, sym, ap, subst, length, Some}
 use Rattle.std.proofs.lemmas.Bool.{cases_eq, cases_lt}
 use Rattle.std.proofs.lemmas.List.{get_or_past}
-use Rattle.chunk_plain.specs.Views.{newcomer}
+use Rattle.chunk_plain.specs.Views.{Ask, WriterView, newcomer}
 use Rattle.chunk_plain.specs.Meaning.{Meaning, IsWriterStep}
 use Rattle.chunk_plain.specs.World.{World, writer}
 use Rattle.chunk_plain.specs.Owned.{IsOwned}
@@ -56,11 +56,23 @@ sit_helped means old new leaves sit place below =
     let one = sit place inside in
     record { seat = one.seat; sits = (leaves.writers_stay one.seat one.sits).0; place_is = one.place_is }
 
--- In the world that is told, a writer's step leaves the rows of all others, and the service.
+-- claims were added, and none taken back
+pub record AsksMore (old new : WriterView) : Type 0 where
+  pub more : List Ask
+  pub asked : new.asked ≡ old.asked ++ more
+
+-- In the world that is told, a writer's step leaves the rows of all others, and the service; what it adds to its claims it adds there.
 pub own_step : {T W S : Type 0} (means : Meaning T W S) → AreLaws means → (old : T) (seat : W) (new : T) (after : W) (server : S)
-    → IsWriterStep means old seat new after → AllSit means old → means.serves old server
+    → IsWriterStep means old seat new after → means.sits old seat → AsksMore (means.view old seat) (means.view new after)
+    → AllSit means old → means.serves old server
     → (was is : World) → means.told old ≡ Some was → means.told new ≡ Some is → LeavesRest (means.place seat) was is
-own_step means laws old seat new after server step sit serves was is told_old told_new = record { writers = rows; service = served }
+own_step means laws old seat new after server step sits claims sit serves was is told_old told_new = record {
+  writers = rows;
+  service = served;
+  more = claims.more;
+  asked = ap (λ (v : WriterView). v.asked) (row_is means laws new is told_new (means.place seat) after step.seat_stays step.place_stays) ∙ claims.asked
+      ∙ ap (λ (v : WriterView). v.asked ++ claims.more) (sym (row_is means laws old was told_old (means.place seat) seat sits refl));
+}
   where
     rows : (other : ℕ) → other ≢ means.place seat → writer is other ≡ writer was other
     rows other apart = elim (cases_lt other (length (means.setup old).writers)) [

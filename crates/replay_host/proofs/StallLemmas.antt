@@ -34,7 +34,7 @@ use Rattle.replay_host.proofs.AskedLemmas.{all_sit, route_is, set_here, set_ther
 use Rattle.replay_host.proofs.KeepLemmas.{works_keep}
 use Rattle.replay_host.proofs.RowLemmas.{AreLaws, row_is}
 use Rattle.replay_host.proofs.StuckLemmas.{IsTidy, tidy_is, stalled_holds_none, IsStuck, others_write, others_wrote, none_freed, none_left_still}
-use Rattle.replay_host.proofs.WorkLemmas.{Begins, none_between, begins_quiet, begins_gets, begins_out, begins_helped, out_is, own_first, own_leaves, helped_world, collects_world}
+use Rattle.replay_host.proofs.WorkLemmas.{Begins, none_between, begins_quiet, begins_gets, begins_out, begins_helped, out_is, own_first, leaves_none, quiet_leaves, gets_leaves, round_is, helped_world, collects_world}
 
 -- a help that takes nothing
 abbrev pub TakesNothing : Setup → (producer : ℕ) → (old new : World) → Type 0
@@ -45,7 +45,7 @@ TakesNothing setup producer old new = (collects : Collects setup producer old ne
 pub record StallsTo (setup : Setup) (place : ℕ) (call : Call) (was is : World) : Type 0 where
   pub asking : World
   pub kept : World
-  pub works : acts.Works setup place call was asking
+  pub works : acts.Works setup place call false was asking
   pub out : IsOut setup place asking
   pub help : TakesNothing setup (producer_of setup place) asking kept
   pub own : LeavesRest place kept is
@@ -57,7 +57,7 @@ pub record StallsTo (setup : Setup) (place : ℕ) (call : Call) (was is : World)
 
 -- the same behind what came before
 stalls_from : (setup : Setup) (place : ℕ) (call : Call) (was mid is : World) (to : StallsTo setup place call mid is)
-    → acts.Works setup place call was to.asking → StallsTo setup place call was is
+    → acts.Works setup place call false was to.asking → StallsTo setup place call was is
 stalls_from setup place call was mid is to works = record {
   asking = to.asking;
   kept = to.kept;
@@ -98,7 +98,7 @@ stalls_world means laws setup place route call may range producer policy stalls
       rest.0,
       rest.1,
       stalls_from setup place call was mid.0 rest.0 rest.2 (own_first setup place was
-          (own_leaves means laws setup place route helper old seat next moved silent.quiet.step begins was mid.0 told mid.1) rest.2.works),
+          (quiet_leaves means laws setup place route helper old seat next moved silent.quiet begins was mid.0 told mid.1) rest.2.works),
     )
 stalls_world means laws setup place route call may range producer policy stalls (Gets helper old seat next moved stopped left new after gets works)
     halted begins was told =
@@ -108,7 +108,7 @@ stalls_world means laws setup place route call may range producer policy stalls 
       rest.0,
       rest.1,
       stalls_from setup place call was mid.0 rest.0 rest.2 (own_first setup place was
-          (own_leaves means laws setup place route helper old seat next moved gets.step begins was mid.0 told mid.1) rest.2.works),
+          (gets_leaves means laws setup place route helper old seat next moved gets begins was mid.0 told mid.1) rest.2.works),
     )
 stalls_world means laws setup place route call may range producer policy stalls
     (Helped helper old seat asking asker helped freed stopped left new after waits out helps works) halted begins was told =
@@ -119,8 +119,8 @@ stalls_world means laws setup place route call may range producer policy stalls
     (begins_helped means setup place route helper helped asking freed asker true out.vain.step.seat_stays asked helps.0 helps.1) help.0 help.1 in (
       rest.0,
       rest.1,
-      stalls_from setup place call was help.0 rest.0 rest.2 (acts.Helped was mid.0 help.0 rest.2.asking may (sym policy ∙ stalls)
-          (own_leaves means laws setup place route helper old seat asking asker out.vain.step begins was mid.0 told mid.1)
+      stalls_from setup place call was help.0 rest.0 rest.2 (acts.Helped false was was mid.0 help.0 rest.2.asking may (sym policy ∙ stalls) (leaves_none place was)
+          (round_is means laws setup place route helper old seat asking asker range out.vain begins was mid.0 told mid.1)
           (out_is means laws setup place route helper old seat asking asker range out asked mid.0 mid.1 mid.2)
           (subst (λ (p : ℕ). Collects setup p mid.0 help.0) producer
           (subst (λ (s : Setup). Collects s route.spec.producer mid.0 help.0) asked.setup_is help.2))
@@ -141,12 +141,12 @@ stalls_world means laws setup place route call may range producer policy stalls
       record {
         asking = mid.0;
         kept = help.0;
-        works = acts.Alone was mid.0 (own_leaves means laws setup place route helper old seat asking asker out.vain.step begins was mid.0 told
-            mid.1);
+        works = acts.Alone was mid.0
+            (round_is means laws setup place route helper old seat asking asker range out.vain begins was mid.0 told mid.1).leaves;
         out = out_is means laws setup place route helper old seat asking asker range out asked mid.0 mid.1 mid.2;
         help = subst (λ (p : ℕ). TakesNothing setup p mid.0 help.0) producer
             (subst (λ (s : Setup). TakesNothing s route.spec.producer mid.0 help.0) asked.setup_is (help.2, none_taken help.2.taken help.3));
-        own = own_leaves means laws setup place route left kept asker new after ends.step behind help.0 last.0 help.1 last.1;
+        own = quiet_leaves means laws setup place route left kept asker new after ends behind help.0 last.0 help.1 last.1;
         frees = last.2;
         idle = ap (λ (v : ServiceView). v.reading) (sym
             (laws.told_service_view asking helper.service.seat mid.0 mid.1 helps.0.may.served.serves))
@@ -288,6 +288,7 @@ module _ {T W S : Type 0} (means : Meaning T W S) (laws : AreLaws means) (call :
             (record {
               setup_is = refl;
               place_is = seated.place_is;
+              sits = seated.sits;
               sit = all_sit means old cores helper.service core stands;
               serves = stands.served.serves;
               producer = producer_is;

@@ -157,7 +157,7 @@ kept_at (Completed about before ∷ old) (Completed other after ∷ new) keeps n
   subst (λ (c : ℕ). At (Completed about before ∷ old) zero (Completed c before))
       (sym keeps.0 ∙ same_chunk new other chunk after content at) refl,
 )
-kept_at (Completed about before ∷ old) (Completed other after ∷ new) keeps none (suc id) chunk content at = kept_at old new keeps.1 none
+kept_at (Completed about before ∷ old) (Completed other after ∷ new) keeps none (suc id) chunk content at = kept_at old new keeps.2 none
     id chunk content at
 
 -- ---- worlds

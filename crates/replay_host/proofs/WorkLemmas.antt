@@ -1,44 +1,52 @@
 -- A writer's work, with the helps that it asks for, as steps over worlds.
-use Rattle.std.proofs.Common.{◌≡◌, ◌≢◌, ◌∙◌, ℕ, ◌+◌, refl, sym, ap, subst, arith, Bool, true, false, not, ◌==◌, Some, None, []}
+use Rattle.std.proofs.Common.{◌≡◌, ◌≢◌, ◌∙◌, ℕ, ◌+◌, refl, sym, ap, subst, arith, Bool, true, false, not, ◌==◌, Some, None, List, [], ◌∷◌, ◌++◌, length, append_assoc, append-nil}
 use Rattle.trace_base.specs.declared.policy.WriterPolicy.{WriterPolicy}
-use Rattle.trace_base.specs.declared.policy.WriterPolicy.TheVariants.{StallsThenDrops}
+use Rattle.trace_base.specs.declared.policy.WriterPolicy.TheVariants.{Drops, StallsThenDrops}
 use Rattle.trace_model.specs.Calls.{Call}
-use Rattle.claim_arbiter.specs.Claiming.{NoneFree, range_in}
+use Rattle.claim_arbiter.specs.Claiming.{NoneFree, AllClaimed, ClaimsInTurn, lost_asks, range_in}
 use Rattle.chunk_plain.specs.declared.setup.ChunkRange.{ChunkRange}
 use Rattle.chunk_plain.specs.Setup.{Setup, range_of, producer_of}
-use Rattle.chunk_plain.specs.Views.{WriterView, ServiceView, fresh}
+use Rattle.chunk_plain.specs.Views.{Ask, WriterView, ServiceView, fresh}
 use Rattle.chunk_plain.specs.Meaning.{Meaning, IsWriterStep}
 use Rattle.chunk_plain.specs.World.{World, Unclaimed, status, writer}
 use Rattle.trace_writer.specs.declared.route.Route.{Route}
 use Rattle.trace_writer.specs.Claims.{AreOwnChunks, KeepsClaims}
-use Rattle.trace_writer.specs.Helping.{LeavesWriters, refuses, Tries, Gains, Again, Ends, Works, Done, Silent, Gets, Helped, Refused, Lost, Tried, GivesUp}
+use Rattle.trace_writer.specs.Helping.{LeavesWriters, refuses, loses, Tries, Gains, Again, Ends, Works, Done, Silent, Gets, Helped, Refused, Lost, Tried, GivesUp}
 use Rattle.trace_writer.specs.OwnSteps.{NoneHeld, IsQuiet, IsSilent, GetsChunk, IsInVain, IsOutNow}
 use Rattle.service_core.specs.Taking.{Takes, places_of}
 use Rattle.service_core.specs.Told.{LeavesNone}
 use Rattle.replay_model.specs.Does as acts
-use Rattle.replay_model.specs.Does.{LeavesRest, HasNoFreeChunk, MayNeedChunk, IsVainIn, IsOut, policy_of, AreOpen, Collects}
+use Rattle.replay_model.specs.Does.{LeavesRest, GoesRound, HasNoFreeChunk, MayNeedChunk, IsVainIn, IsOut, policy_of, asks_for, AreOpen, Collects}
 use Rattle.replay_host.specs.declared.helper.Collecting.{Collecting}
 use Rattle.replay_host.specs.Helping.{Helps, Collected}
 use Rattle.trace_writer.proofs.claims.KeepingClaims.{chunks_kept, chunks_more}
 use Rattle.replay_host.proofs.TakenLemmas.{open_is}
 use Rattle.service_core.proofs.AnswerLemmas.{takes_something}
-use Rattle.replay_host.proofs.RowLemmas.{AreLaws, AllSit, row_is, sit_after, sit_helped, own_step}
+use Rattle.replay_host.proofs.RowLemmas.{AreLaws, AllSit, AsksMore, row_is, sit_after, sit_helped, own_step}
+
+-- no step at all
+pub leaves_none : (place : ℕ) (world : World) → LeavesRest place world world
+leaves_none place world = record { writers = λ other apart. refl; service = refl; more = []; asked = sym (append-nil (writer world place).asked) }
 
 -- own steps one behind another
 pub leaves_both : (place : ℕ) (old mid new : World) → LeavesRest place old mid → LeavesRest place mid new → LeavesRest place old new
 leaves_both place old mid new first second = record {
   writers = λ other apart. second.writers other apart ∙ first.writers other apart;
   service = second.service ∙ first.service;
+  more = first.more ++ second.more;
+  asked = second.asked ∙ ap (λ (asks : List Ask). asks ++ second.more) first.asked ∙ append_assoc (writer old place).asked first.more second.more;
 }
 
 -- own steps before a work
-pub own_first : (setup : Setup) (place : ℕ) {call : Call} (old : World) {mid new : World} → LeavesRest place old mid
-    → acts.Works setup place call mid new → acts.Works setup place call old new
+pub own_first : (setup : Setup) (place : ℕ) {call : Call} {stopped : Bool} (old : World) {mid new : World} → LeavesRest place old mid
+    → acts.Works setup place call stopped mid new → acts.Works setup place call stopped old new
 own_first setup place old first (acts.Alone mid new leaves) = acts.Alone old new (leaves_both place old mid new first leaves)
-own_first setup place old first (acts.Helped mid asking freed new may stalls leaves out collects owned some works) =
-    acts.Helped old asking freed new may stalls (leaves_both place old mid asking first leaves) out collects owned some works
-own_first setup place old first (acts.Asked mid asking freed new tries may trying leaves vain collects owned works) =
-    acts.Asked old asking freed new tries may trying (leaves_both place old mid asking first leaves) vain collects owned works
+own_first setup place old first (acts.Helped stopped mid before asking freed new may stalls leaves round out collects owned some works) =
+    acts.Helped stopped old before asking freed new may stalls (leaves_both place old mid before first leaves) round out collects owned some works
+own_first setup place old first (acts.Tried stopped mid before gained new tries may trying leaves tried works) =
+    acts.Tried stopped old before gained new tries may trying (leaves_both place old mid before first leaves) tried works
+own_first setup place old first (acts.Lost mid before last new may losing leaves tried ends asked) =
+    acts.Lost old before last new may losing (leaves_both place old mid before first leaves) tried ends asked
 
 -- where no chunk comes free, none is free behind it
 pub none_free_still : (first last : ℕ) (was is : World) → ((chunk : ℕ) → status is chunk ≡ Unclaimed → status was chunk ≡ Unclaimed)
@@ -96,7 +104,7 @@ helped_world means laws helper helped asking freed producer helps at was told_wa
 
 -- what a work comes to in the worlds that are told
 pub record WorksTo (setup : Setup) (place : ℕ) (call : Call) (policy : WriterPolicy) (stopped : Bool) (was is : World) : Type 0 where
-  pub works : acts.Works setup place call was is
+  pub works : acts.Works setup place call stopped was is
   pub full : stopped ≡ true → HasNoFreeChunk setup (producer_of setup place) is
 
 -- ---- what a writer has out
@@ -147,6 +155,7 @@ module _ {T W S : Type 0} (means : Meaning T W S) (setup : Setup) (place : ℕ) 
 pub record Begins {T W S : Type 0} (means : Meaning T W S) (setup : Setup) (place : ℕ) (route : Route) (helper : Collecting S) (old : T) (seat : W) : Type 0 where
   pub setup_is : means.setup old ≡ setup
   pub place_is : means.place seat ≡ place
+  pub sits : means.sits old seat
   pub sit : AllSit means old
   pub serves : means.serves old helper.service.seat
   pub producer : helper.producer ≡ route.spec.producer
@@ -158,6 +167,7 @@ begins_after : {T W S : Type 0} (means : Meaning T W S) (setup : Setup) (place :
 begins_after means setup place route helper old seat new after step begins none_out = record {
   setup_is = step.setup_stays ∙ begins.setup_is;
   place_is = step.place_stays ∙ begins.place_is;
+  sits = step.seat_stays;
   sit = sit_after means old seat new after step begins.sit;
   serves = (step.service_stays helper.service.seat begins.serves).0;
   producer = begins.producer;
@@ -186,6 +196,7 @@ pub begins_helped : {T W S : Type 0} (means : Meaning T W S) (setup : Setup) (pl
 begins_helped means setup place route helper helped asking freed asker answer sits asked helps leaves = record {
   setup_is = leaves.setup_stays ∙ asked.setup_is;
   place_is = asked.place_is;
+  sits = (leaves.writers_stay asker sits).0;
   sit = sit_helped means asking freed leaves asked.sit;
   serves = helps.step.seat_stays;
   producer = helps.producer_is ∙ asked.producer;
@@ -221,12 +232,84 @@ out_is means laws setup place route helper old seat asking asker range out asked
       none_held = subst (λ (v : WriterView). NoneHeld v.begun) (sym row) out.none_held;
     }
 
+-- ---- what own steps add to the claims
+
+pub more_quiet : {T W S : Type 0} (means : Meaning T W S) (old : T) (seat : W) (new : T) (after : W) → IsQuiet means old seat new after
+    → AsksMore (means.view old seat) (means.view new after)
+more_quiet means old seat new after quiet = record { more = []; asked = quiet.asked ∙ sym (append-nil (means.view old seat).asked) }
+
+pub more_gets : {T W S : Type 0} (means : Meaning T W S) (route : Route) (old : T) (seat : W) (new : T) (after : W) → GetsChunk means route old seat new after
+    → AsksMore (means.view old seat) (means.view new after)
+more_gets means route old seat new after gets =
+    let calls : ℕ = length (means.view old seat).calls in
+    let won : Ask = record { chunk = gets.chunk; found = gets.claims.found; won = true; calls = calls } in
+    let lost : List Ask = lost_asks calls route.arbiter.first gets.claims.words in
+    record {
+      more = lost ++ won ∷ [];
+      asked = ap (λ (v : WriterView). v.asked) gets.claims.view ∙ append_assoc (means.view old seat).asked lost (won ∷ []);
+    }
+
+pub more_vain : {T W S : Type 0} (means : Meaning T W S) (route : Route) (old : T) (seat : W) (new : T) (after : W) → IsInVain means route old seat new after
+    → AsksMore (means.view old seat) (means.view new after)
+more_vain means route old seat new after vain = record {
+  more = lost_asks (length (means.view old seat).calls) route.arbiter.first vain.words;
+  asked = vain.asked;
+}
+
 pub own_leaves : {T W S : Type 0} (means : Meaning T W S) → AreLaws means → (setup : Setup) (place : ℕ) (route : Route) (helper : Collecting S)
-    (old : T) (seat : W) (new : T) (after : W) → IsWriterStep means old seat new after → Begins means setup place route helper old seat
+    (old : T) (seat : W) (new : T) (after : W) → IsWriterStep means old seat new after → AsksMore (means.view old seat) (means.view new after)
+    → Begins means setup place route helper old seat
     → (was is : World) → means.told old ≡ Some was → means.told new ≡ Some is → LeavesRest place was is
-own_leaves means laws setup place route helper old seat new after step begins was is told_was told_is =
+own_leaves means laws setup place route helper old seat new after step claims begins was is told_was told_is =
     subst (λ (p : ℕ). LeavesRest p was is) begins.place_is
-    (own_step means laws old seat new after helper.service.seat step begins.sit begins.serves was is told_was told_is)
+    (own_step means laws old seat new after helper.service.seat step begins.sits claims begins.sit begins.serves was is told_was told_is)
+
+pub quiet_leaves : {T W S : Type 0} (means : Meaning T W S) → AreLaws means → (setup : Setup) (place : ℕ) (route : Route) (helper : Collecting S)
+    (old : T) (seat : W) (new : T) (after : W) → IsQuiet means old seat new after → Begins means setup place route helper old seat
+    → (was is : World) → means.told old ≡ Some was → means.told new ≡ Some is → LeavesRest place was is
+quiet_leaves means laws setup place route helper old seat new after quiet begins was is told_was told_is =
+    own_leaves means laws setup place route helper old seat new after quiet.step (more_quiet means old seat new after quiet) begins was is told_was told_is
+
+pub gets_leaves : {T W S : Type 0} (means : Meaning T W S) → AreLaws means → (setup : Setup) (place : ℕ) (route : Route) (helper : Collecting S)
+    (old : T) (seat : W) (new : T) (after : W) → GetsChunk means route old seat new after → Begins means setup place route helper old seat
+    → (was is : World) → means.told old ≡ Some was → means.told new ≡ Some is → LeavesRest place was is
+gets_leaves means laws setup place route helper old seat new after gets begins was is told_was told_is =
+    own_leaves means laws setup place route helper old seat new after gets.step (more_gets means route old seat new after gets) begins was is told_was told_is
+
+-- a round of claims in vain is one in the worlds that are told
+pub round_is : {T W S : Type 0} (means : Meaning T W S) → AreLaws means → (setup : Setup) (place : ℕ) (route : Route) (helper : Collecting S)
+    (old : T) (seat : W) (asking : T) (asker : W) → range_of setup (producer_of setup place) ≡ range_in route.arbiter
+    → IsInVain means route old seat asking asker → Begins means setup place route helper old seat
+    → (was is : World) → means.told old ≡ Some was → means.told asking ≡ Some is → GoesRound setup place was is
+round_is means laws setup place route helper old seat asking asker range vain begins was is told_was told_is =
+    let row_old : writer was place ≡ means.view old seat = row_is means laws old was told_was place seat begins.sits begins.place_is in
+    let row_new : writer is place ≡ means.view asking asker = row_is means laws asking is told_is place asker vain.step.seat_stays (vain.step.place_stays ∙ begins.place_is) in
+    record {
+      leaves = own_leaves means laws setup place route helper old seat asking asker vain.step (more_vain means route old seat asking asker vain) begins was is told_was told_is;
+      words = vain.words;
+      count_is = vain.count_is ∙ ap (λ (r : ChunkRange). r.count) (sym range);
+      claimed = subst (λ (r : ChunkRange). AllClaimed setup r.first vain.words) (sym range)
+          (subst (λ (s : Setup). AllClaimed s route.arbiter.first vain.words) begins.setup_is vain.all_claimed);
+      asked = ap (λ (v : WriterView). v.asked) row_new ∙ vain.asked
+          ∙ ap (λ (v : WriterView). v.asked ++ lost_asks (length v.calls) route.arbiter.first vain.words) (sym row_old)
+          ∙ ap (λ (r : ChunkRange). (writer was place).asked ++ lost_asks (length (writer was place).calls) r.first vain.words) (sym range);
+      calls = ap (λ (v : WriterView). v.calls) row_new ∙ vain.calls ∙ ap (λ (v : WriterView). v.calls) (sym row_old);
+    }
+
+-- so is a chunk that it gets
+gains_is : {T W S : Type 0} (means : Meaning T W S) → AreLaws means → (setup : Setup) (place : ℕ) (route : Route) (helper : Collecting S)
+    (old : T) (seat : W) (new : T) (after : W) → range_of setup (producer_of setup place) ≡ range_in route.arbiter
+    → (gets : GetsChunk means route old seat new after) → Begins means setup place route helper old seat
+    → (was is : World) → means.told old ≡ Some was → means.told new ≡ Some is
+    → ClaimsInTurn setup (range_of setup (producer_of setup place)).first (range_of setup (producer_of setup place)).count gets.chunk
+    (writer was place) (writer is place)
+gains_is means laws setup place route helper old seat new after range gets begins was is told_was told_is =
+    let row_old : writer was place ≡ means.view old seat = row_is means laws old was told_was place seat begins.sits begins.place_is in
+    let row_new : writer is place ≡ means.view new after = row_is means laws new is told_is place after gets.step.seat_stays (gets.step.place_stays ∙ begins.place_is) in
+    subst (λ (v : WriterView). ClaimsInTurn setup (range_of setup (producer_of setup place)).first (range_of setup (producer_of setup place)).count gets.chunk v (writer is place)) (sym row_old)
+    (subst (λ (v : WriterView). ClaimsInTurn setup (range_of setup (producer_of setup place)).first (range_of setup (producer_of setup place)).count gets.chunk (means.view old seat) v) (sym row_new)
+    (subst (λ (r : ChunkRange). ClaimsInTurn setup r.first r.count gets.chunk (means.view old seat) (means.view new after)) (sym range)
+    (subst (λ (s : Setup). ClaimsInTurn s route.arbiter.first route.arbiter.chunks gets.chunk (means.view old seat) (means.view new after)) begins.setup_is gets.claims)))
 
 -- Quiet steps lead from the one told world to the other, in whatever call.
 pub quiet_world : {T W S : Type 0} (means : Meaning T W S) → AreLaws means → (setup : Setup) (place : ℕ) (route : Route) (call : Call)
@@ -238,7 +321,8 @@ quiet_world means laws setup place route call helper old seat stopped new after 
       next.0,
       next.1,
       record {
-        works = acts.Alone was next.0 (own_leaves means laws setup place route helper old seat new after quiet.step begins was next.0 told next.1);
+        works = subst (λ (b : Bool). acts.Works setup place call b was next.0) (sym goes)
+            (acts.Alone was next.0 (quiet_leaves means laws setup place route helper old seat new after quiet begins was next.0 told next.1));
         full = λ stops. absurd (let never : true ≡ false = sym stops ∙ goes in cc);
       },
     )
@@ -252,59 +336,75 @@ none_free_range setup place route range was is frees none =
 
 -- What tries for one chunk come to in the worlds that are told: the writer and its seat go on from there, and where all were in vain
 -- no chunk of its producer is free.
-record TriesTo {T W S : Type 0} (means : Meaning T W S) (setup : Setup) (place : ℕ) (call : Call) (route : Route) (stopped : Bool) (was is : World)
+record TriesTo {T W S : Type 0} (means : Meaning T W S) (setup : Setup) (place : ℕ) (route : Route) (left : ℕ) (stopped : Bool) (was is : World)
     (kept : Collecting S) (new : T) (after : W) : Type 0 where
   begins : Begins means setup place route kept new after
-  works : (later : World) → acts.Works setup place call is later → acts.Works setup place call was later
+  tries : acts.Tries setup place left stopped was is
   full : stopped ≡ true → NoneFree is route.arbiter.first (route.arbiter.first + route.arbiter.chunks)
 
-tries_world : {T W S : Type 0} (means : Meaning T W S) → AreLaws means → (setup : Setup) (place : ℕ) (route : Route) (call : Call) → MayNeedChunk call
+tries_world : {T W S : Type 0} (means : Meaning T W S) → AreLaws means → (setup : Setup) (place : ℕ) (route : Route)
     → range_of setup (producer_of setup place) ≡ range_in route.arbiter → route.spec.producer ≡ producer_of setup place
-    → (tries : ℕ) → policy_of setup place ≡ StallsThenDrops tries
     → {count : ℕ} {helper : Collecting S} {old : T} {seat : W} {stopped : Bool} {kept : Collecting S} {new : T} {after : W}
     → Tries (GetsChunk means route) (IsInVain means route)
     (λ asked table answer behind freed. Helps means asked table route.spec.producer answer behind freed × LeavesWriters means table freed)
     count helper old seat stopped kept new after
     → Begins means setup place route helper old seat → (was : World) → means.told old ≡ Some was
-    → (is : World) × (means.told new ≡ Some is) × TriesTo means setup place call route stopped was is kept new after
-tries_world means laws setup place route call may range producer tries trying (Gains count helper old seat new after gets) begins was told =
+    → (is : World) × (means.told new ≡ Some is) × TriesTo means setup place route count stopped was is kept new after
+tries_world means laws setup place route range producer (Gains count helper old seat new after gets) begins was told =
     let next = gets.frees_none was told in (
       next.0,
       next.1,
       record {
         begins = begins_gets means setup place route helper old seat new after range gets begins;
-        works = λ later works. own_first setup place was (own_leaves means laws setup place route helper old seat new after gets.step begins was next.0 told next.1) works;
+        tries = acts.Gains count gets.chunk was next.0 (gets_leaves means laws setup place route helper old seat new after gets begins was next.0 told next.1)
+            (gains_is means laws setup place route helper old seat new after range gets begins was next.0 told next.1);
         full = λ stops. absurd (let never : true ≡ false = sym stops in cc);
       },
     )
-tries_world means laws setup place route call may range producer tries trying (Again count helper old seat asking asker answer helped freed stopped kept new after vain helps more) begins was told =
+tries_world means laws setup place route range producer (Again count helper old seat asking asker answer helped freed stopped kept new after vain helps more) begins was told =
     let mid = vain.none_free was told in
     let asked = begins_out means setup place route helper old seat asking asker vain begins in
     let help = collects_world means laws helper helped asking freed route.spec.producer answer helps.0 (sym begins.producer) mid.0 mid.1 in
-    let rest = tries_world means laws setup place route call may range producer tries trying more
+    let rest = tries_world means laws setup place route range producer more
     (begins_helped means setup place route helper helped asking freed asker answer vain.step.seat_stays asked helps.0 helps.1) help.0 help.1 in (
       rest.0,
       rest.1,
       record {
         begins = rest.2.begins;
-        works = λ later works. acts.Asked was mid.0 help.0 later tries may trying
-            (own_leaves means laws setup place route helper old seat asking asker vain.step begins was mid.0 told mid.1)
+        tries = acts.Again count stopped was mid.0 help.0 rest.0
+            (round_is means laws setup place route helper old seat asking asker range vain begins was mid.0 told mid.1)
             (vain_is means laws setup place route helper old seat asking asker range vain asked mid.0 mid.1 mid.2)
             (subst (λ (p : ℕ). Collects setup p mid.0 help.0) producer (subst (λ (s : Setup). Collects s route.spec.producer mid.0 help.0) asked.setup_is help.2))
-            (laws.told_owned freed help.0 help.1) (rest.2.works later works);
+            (laws.told_owned freed help.0 help.1) rest.2.tries;
         full = rest.2.full;
       },
     )
-tries_world means laws setup place route call may range producer tries trying (Ends helper old seat new after vain) begins was told =
-    let next = vain.none_free was told in (
+tries_world means laws setup place route range producer (Ends helper old seat new after vain) begins was told =
+    let next = vain.none_free was told in
+    let behind = begins_out means setup place route helper old seat new after vain begins in (
       next.0,
       next.1,
       record {
-        begins = begins_out means setup place route helper old seat new after vain begins;
-        works = λ later works. own_first setup place was (own_leaves means laws setup place route helper old seat new after vain.step begins was next.0 told next.1) works;
+        begins = behind;
+        tries = acts.Ends was next.0 (round_is means laws setup place route helper old seat new after range vain begins was next.0 told next.1)
+            (vain_is means laws setup place route helper old seat new after range vain behind next.0 next.1 next.2);
         full = λ stops. next.2;
       },
     )
+
+-- where all tries for a chunk were in vain, the packet is lost, in quiet steps behind them
+lost_is : {T W S : Type 0} (means : Meaning T W S) → AreLaws means → (setup : Setup) (place : ℕ) (route : Route) (call : Call) → MayNeedChunk call
+    → (policy : WriterPolicy) → policy_of setup place ≡ policy → loses policy ≡ true → (left : Collecting S) (mid : T) (between : W) (new : T) (after : W)
+    → IsQuiet means mid between new after → Begins means setup place route left mid between → (was last is : World)
+    → means.told mid ≡ Some last → means.told new ≡ Some is → acts.Tries setup place (asks_for policy) true was last
+    → acts.Works setup place call true was is
+lost_is means laws setup place route call may policy policy_is losing left mid between new after quiet begins was last is told_last told_is tries =
+    acts.Lost was was last is may (ap loses policy_is ∙ losing) (leaves_none place was)
+    (subst (λ (p : WriterPolicy). acts.Tries setup place (asks_for p) true was last) (sym policy_is) tries)
+    (quiet_leaves means laws setup place route left mid between new after quiet begins last is told_last told_is)
+    (ap (λ (v : WriterView). v.asked) (row_is means laws new is told_is place after quiet.step.seat_stays (quiet.step.place_stays ∙ begins.place_is))
+    ∙ quiet.asked
+    ∙ ap (λ (v : WriterView). v.asked) (sym (row_is means laws mid last told_last place between begins.sits begins.place_is)))
 
 -- A work that isn't refused, in a call that may need a chunk, leads from the one told world to the other.
 pub works_world : {T W S : Type 0} (means : Meaning T W S) → AreLaws means → (setup : Setup) (place : ℕ) (route : Route) (call : Call) → MayNeedChunk call
@@ -327,7 +427,7 @@ works_world means laws setup place route call may range producer policy last qui
       rest.1,
       record {
         works = own_first setup place was
-            (own_leaves means laws setup place route helper old seat next moved silent.quiet.step begins was mid.0 told mid.1) rest.2.works;
+            (quiet_leaves means laws setup place route helper old seat next moved silent.quiet begins was mid.0 told mid.1) rest.2.works;
         full = rest.2.full;
       },
     )
@@ -339,7 +439,7 @@ works_world means laws setup place route call may range producer policy last qui
       rest.1,
       record {
         works = own_first setup place was
-            (own_leaves means laws setup place route helper old seat next moved gets.step begins was mid.0 told mid.1) rest.2.works;
+            (gets_leaves means laws setup place route helper old seat next moved gets begins was mid.0 told mid.1) rest.2.works;
         full = rest.2.full;
       },
     )
@@ -352,8 +452,8 @@ works_world means laws setup place route call may range producer policy last qui
       rest.0,
       rest.1,
       record {
-        works = acts.Helped was mid.0 help.0 rest.0 may (sym policy ∙ stalls)
-            (own_leaves means laws setup place route helper old seat asking asker out.vain.step begins was mid.0 told mid.1)
+        works = acts.Helped stopped was was mid.0 help.0 rest.0 may (sym policy ∙ stalls) (leaves_none place was)
+            (round_is means laws setup place route helper old seat asking asker range out.vain begins was mid.0 told mid.1)
             (out_is means laws setup place route helper old seat asking asker range out asked mid.0 mid.1 mid.2)
             (subst (λ (p : ℕ). Collects setup p mid.0 help.0) producer (subst (λ (s : Setup). Collects s route.spec.producer mid.0 help.0) asked.setup_is help.2))
             (laws.told_owned freed help.0 help.1) help.3 rest.2.works;
@@ -365,30 +465,36 @@ works_world means laws setup place route call may range producer policy last qui
 works_world means laws setup place route call may range producer policy last quiet (Lost helper old seat mid between new after drops out ends) going begins was told =
     let step = quiet mid between new after ends in
     let middle = out.vain.none_free was told in
+    let behind = begins_out means setup place route helper old seat mid between out.vain begins in
     let next = step.frees_none middle.0 middle.1 in (
       next.0,
       next.1,
       record {
-        works = own_first setup place was
-            (own_leaves means laws setup place route helper old seat mid between out.vain.step begins was middle.0 told middle.1)
-            (acts.Alone middle.0 next.0 (own_leaves means laws setup place route helper mid between new after step.step
-            (begins_out means setup place route helper old seat mid between out.vain begins) middle.0 next.0 middle.1 next.1));
+        works = lost_is means laws setup place route call may Drops (sym policy ∙ drops) refl helper mid between new after step behind was middle.0 next.0 middle.1 next.1
+            (acts.Ends was middle.0 (round_is means laws setup place route helper old seat mid between range out.vain begins was middle.0 told middle.1)
+            (vain_is means laws setup place route helper old seat mid between range out.vain behind middle.0 middle.1 middle.2));
         full = λ is. none_free_range setup place route range middle.0 next.0 next.2 middle.2;
       },
     )
 works_world means laws setup place route call may range producer policy last quiet (Tried helper old seat tries kept next moved stopped left new after trying tried works) going begins was told =
-    let mid = tries_world means laws setup place route call may range producer tries (sym policy ∙ trying) tried begins was told in
-    let rest = works_world means laws setup place route call may range producer policy last quiet works going mid.2.begins mid.0 mid.1 in
-    (rest.0, rest.1, record { works = mid.2.works rest.0 rest.2.works; full = rest.2.full })
+    let mid = tries_world means laws setup place route range producer tried begins was told in
+    let rest = works_world means laws setup place route call may range producer policy last quiet works going mid.2.begins mid.0 mid.1 in (
+      rest.0,
+      rest.1,
+      record {
+        works = acts.Tried stopped was was mid.0 rest.0 tries may (sym policy ∙ trying) (leaves_none place was) mid.2.tries rest.2.works;
+        full = rest.2.full;
+      },
+    )
 works_world means laws setup place route call may range producer policy last quiet (GivesUp helper old seat tries left mid between new after trying tried ends) going begins was told =
     let step = quiet mid between new after ends in
-    let middle = tries_world means laws setup place route call may range producer tries (sym policy ∙ trying) tried begins was told in
+    let middle = tries_world means laws setup place route range producer tried begins was told in
     let next = step.frees_none middle.0 middle.1 in (
       next.0,
       next.1,
       record {
-        works = middle.2.works next.0
-            (acts.Alone middle.0 next.0 (own_leaves means laws setup place route left mid between new after step.step middle.2.begins middle.0 next.0 middle.1 next.1));
+        works = lost_is means laws setup place route call may (StallsThenDrops tries) (sym policy ∙ trying) refl left mid between new after step middle.2.begins
+            was middle.0 next.0 middle.1 next.1 middle.2.tries;
         full = λ is. none_free_range setup place route range middle.0 next.0 next.2 (middle.2.full refl);
       },
     )

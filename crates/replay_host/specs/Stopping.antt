@@ -1,5 +1,5 @@
 -- Why a scenario isn't played to its end, and what the sink has taken then.
-use Rattle.std.specs.Prelude.{◌≡◌, ◌≢◌, ℕ, suc, true, List, ◌∷◌, ◌++◌, length, Some, slice_get}
+use Rattle.std.specs.Prelude.{◌≡◌, ◌≢◌, ℕ, suc, true, false, List, ◌∷◌, ◌++◌, length, Some, slice_get}
 use Rattle.std.specs.List.{flat_map}
 use Rattle.byte_io.specs.Bytes.{Intake, after_told, TakesPart}
 use Rattle.trace_base.specs.declared.policy.WriterPolicy.TheVariants as policies
@@ -43,7 +43,7 @@ pub record StallsIn (setup : Setup) (place : ℕ) (call : Call) (old new : World
   pub policy_is : policy_of setup place ≡ policies.Stalls
   pub asking : World
   pub kept : World
-  pub works : Works setup place call old asking
+  pub works : Works setup place call false old asking
   pub out : IsOut setup place asking
   pub collects : Collects setup (producer_of setup place) asking kept
   pub none : collects.taken ≡ 0
