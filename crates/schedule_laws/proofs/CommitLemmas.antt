@@ -6,7 +6,7 @@ use Rattle.chunk_plain.specs.Views.{Committed, ServiceView, taken_of}
 use Rattle.chunk_plain.specs.World.{World, Status, Unclaimed, Claimed, Stamped, Writing, Ready, Reading, status}
 use Rattle.chunk_plain.specs.Plain.{first_world}
 use Rattle.service_core.specs.Agreement.{NoneCommitted, is_closed}
-use Rattle.chunk_schedules.specs.Moves.{Move, Claims, Stamps, Begins, SetsHeader, Publishes, Completes, Calls, Looks, Takes, Learns, Releases, Notes, Commits, claimed_in, behind}
+use Rattle.chunk_schedules.specs.Moves.{Move, Claims, Stamps, Begins, SetsHeader, Publishes, Completes, Calls, Looks, Takes, Learns, Releases, Notes, Commits, HearsOf, Answers, Requests, ReadsAnswer, claimed_in, behind}
 use Rattle.chunk_schedules.specs.Schedules.{IsSchedule, CommitsNone}
 use Rattle.schedule_laws.specs.Laws.{ServingIsInOrder}
 
@@ -60,6 +60,14 @@ commits_elsewhere sequence old new (Notes event ∷ moves) schedule none all =
     commits_elsewhere sequence (behind old (Notes event)) new moves schedule.1 none all
 commits_elsewhere sequence old new (Commits committed ∷ moves) schedule none all =
     commits_elsewhere sequence (behind old (Commits committed)) new moves schedule.1 none.1 (one_more sequence old.service.commits committed all none.0)
+commits_elsewhere sequence old new (HearsOf place number ∷ moves) schedule none all =
+    commits_elsewhere sequence (behind old (HearsOf place number)) new moves schedule.1 none all
+commits_elsewhere sequence old new (Answers place flush chunks ∷ moves) schedule none all =
+    commits_elsewhere sequence (behind old (Answers place flush chunks)) new moves schedule.1 none all
+commits_elsewhere sequence old new (Requests ∷ moves) schedule none all =
+    commits_elsewhere sequence (behind old Requests) new moves schedule.1 none all
+commits_elsewhere sequence old new (ReadsAnswer place flush chunks ∷ moves) schedule none all =
+    commits_elsewhere sequence (behind old (ReadsAnswer place flush chunks)) new moves schedule.1 none all
 
 -- where no move commits an image of the sequence, none came
 pub none_committed : (setup : Setup) (moves : List Move) (world : World) (sequence : ℕ) → IsSchedule (first_world setup) moves world → CommitsNone sequence moves

@@ -1,8 +1,9 @@
 -- Where chunks are enough no writer has lost a packet.
 use Rattle.std.proofs.Common.{◌≡◌, ℕ, suc, ◌+◌, ◌<◌, ◌≤◌, ◌⊎◌, List, [], ◌∷◌, length, refl, sym, ap, subst, arith, inl, inr, cond}
-use Rattle.std.specs.Prelude.{◌==◌}
+use Rattle.std.specs.Prelude.{◌==◌, Some, slice_get}
 use Rattle.std.proofs.lemmas.Bool.{cases_eq, cases_lt}
 use Rattle.std.proofs.lemmas.List.{get_or_past}
+use Rattle.std.proofs.lemmas.Option.{slice_get-get_or}
 use Rattle.trace_base.specs.declared.policy.WriterSpec.{WriterSpec}
 use Rattle.trace_model.specs.Enough.{most_chunks}
 use Rattle.trace_model.specs.Packets.{packets_of, emissions_of, lost_count}
@@ -15,11 +16,11 @@ use Rattle.chunk_plain.specs.Owned.{IsOwned, Won}
 use Rattle.chunk_plain.proofs.AskOrder.{asked_won}
 use Rattle.world_model.specs.FirstBuffers.{payload_at}
 use Rattle.trace_writer.specs.Claims.{KeepsClaims}
-use Rattle.service_core.specs.Agreement.{spec_at}
+use Rattle.service_core.specs.Agreement.{spec_at, no_writer}
 use Rattle.replay_model.proofs.AccountLemmas.{pages_begun}
 use Rattle.replay_model.proofs.PigeonLemmas.{wins_on, range_wins, won_on, range_few, total, total_sum, total_less, total_least, many_wins, asked_at, own_ask, wins_are_begun}
 use Rattle.schedule_laws.specs.Resting.{AreBetweenCalls}
-use Rattle.schedule_laws.specs.EnoughLaws.{HasChunksEnough, EnoughChunksLoseNothing, chunks_from}
+use Rattle.schedule_laws.specs.EnoughLaws.{AllStall, HasChunksEnough, EnoughChunksLoseNothing, chunks_from}
 use Rattle.schedule_laws.proofs.AccountLemmas.{owned_behind, many_behind}
 use Rattle.schedule_laws.proofs.BetweenLemmas.{has_written, has_producer}
 
@@ -109,10 +110,17 @@ module _ (setup : Setup) (world : World) (laid : IsLaid setup) (owned : IsOwned 
         ap (λ (n : ℕ). cond (spec.producer == producer_of setup place) (most_chunks (size_of setup (producer_of setup place)) (emissions_of (writer world at).calls)) 0 + n)
         (most_is (suc at) specs)
 
-    no_loss : ⊥
-    no_loss =
+    -- a writer that stalls has lost none
+    stalls_lose_none : AllStall setup (producer_of setup place) → ⊥
+    stalls_lose_none stall =
+        let there : slice_get setup.writers place ≡ Some (spec_at setup.writers place) = slice_get-get_or setup.writers place no_writer inside in
+        let none = (claims_of place inside).stalls (spec_at setup.writers place) there (stall place inside refl) in
+        omega (arith, none, some)
+
+    -- and where there are as many chunks, the lost packet's would have been free
+    full_lose_none : chunks_from setup world (producer_of setup place) 0 setup.writers ≤ (range_of setup (producer_of setup place)).count → ⊥
+    full_lose_none room =
         let begun = all_begun in
-        let room = enough.room producer (producer_there place inside) in
         let each = total_less world producer (λ p. length (writer world p).begun + lost_count (packets_of (writer world p).calls))
         (λ p. most_chunks (size_of setup producer) (emissions_of (writer world p).calls)) 0 setup.writers
         (λ i low mine.
@@ -131,6 +139,12 @@ module _ (setup : Setup) (world : World) (laid : IsLaid setup) (owned : IsOwned 
         let most = most_is 0 setup.writers in
         let least = some in
         omega (arith, room, begun, each, sum, one, here, most, least)
+
+    no_loss : ⊥
+    no_loss = elim (enough.room producer (producer_there place inside)) [
+      | inl stall ↦ stalls_lose_none stall
+      | inr room ↦ full_lose_none room
+    ]
 
   pub none_is_lost : (place : ℕ) → place < length setup.writers → lost_count (packets_of (writer world place).calls) ≡ 0
   none_is_lost place inside = by_count (cases_eq (lost_count (packets_of (writer world place).calls)) 0)

@@ -1,5 +1,6 @@
 -- Where chunks and buffer bytes are enough no packet is missing, whichever schedule was taken.
-use Rattle.std.specs.Prelude.{◌≡◌, ℕ, suc, ◌+◌, ◌-◌, ◌*◌, ◌<◌, ◌≤◌, ◌==◌, false, List, [], ◌∷◌, length, Some, slice_get, if◌then◌else◌}
+use Rattle.std.specs.Prelude.{◌≡◌, ℕ, suc, ◌+◌, ◌-◌, ◌*◌, ◌<◌, ◌≤◌, ◌⊎◌, ◌==◌, false, List, [], ◌∷◌, length, Some, slice_get, if◌then◌else◌}
+use Rattle.trace_base.specs.declared.policy.WriterPolicy.TheVariants.{Stalls}
 use Rattle.trace_base.specs.declared.policy.WriterSpec.{WriterSpec}
 use Rattle.page_geometry.specs.Sizes.{record_size}
 use Rattle.trace_model.specs.Delivery.{records_of}
@@ -9,11 +10,12 @@ use Rattle.trace_model.specs.Packets.{packets_of, emissions_of, begun_count, is_
 use Rattle.delivery_laws.specs.Finishing.{Finishes}
 use Rattle.chunk_plain.specs.declared.setup.ProducerSpec.{ProducerSpec}
 use Rattle.chunk_plain.specs.Laying.{setup_of}
-use Rattle.chunk_plain.specs.Setup.{Setup, IsLaid, HasProducer, ProducersAreApart, range_of, size_of, sequence_of}
+use Rattle.chunk_plain.specs.Setup.{Setup, IsLaid, HasProducer, ProducersAreApart, producer_of, range_of, size_of, sequence_of}
 use Rattle.chunk_plain.specs.World.{World, writer}
 use Rattle.chunk_plain.specs.Plain.{first_world}
 use Rattle.chunk_plain.specs.Histories.{history_of}
 use Rattle.world_model.specs.FirstBuffers.{BufferSpec, first_buffers}
+use Rattle.service_core.specs.Agreement.{spec_at}
 use Rattle.chunk_schedules.specs.Moves.{Move}
 use Rattle.chunk_schedules.specs.Schedules.{IsSchedule}
 use Rattle.schedule_laws.specs.Resting.{AreBetweenCalls, AreNotedInOrder}
@@ -31,12 +33,17 @@ chunks_from setup world producer place (spec ∷ specs) =
     (if spec.producer == producer then most_chunks (size_of setup producer) (emissions_of (writer world place).calls) else 0)
     + chunks_from setup world producer (suc place) specs
 
--- Each writer is between two packets, and each producer has chunks enough for all that its writers emitted.
+-- all writers of the producer stall
+abbrev pub AllStall : Setup → (producer : ℕ) → Type 0
+AllStall setup producer = (place : ℕ) → place < length setup.writers → producer_of setup place ≡ producer
+    → (spec_at setup.writers place).policy ≡ Stalls
+
+-- Each writer is between two packets, and of each producer all writers stall, or there are chunks enough for all that they emitted.
 pub record HasChunksEnough (setup : Setup) (world : World) : Type 0 where
   pub apart : ProducersAreApart setup
   pub between : (place : ℕ) → place < length setup.writers → is_writing (packets_of (writer world place).calls) ≡ false
   pub room : (producer : ℕ) → HasProducer setup producer
-      → chunks_from setup world producer 0 setup.writers ≤ (range_of setup producer).count
+      → AllStall setup producer ⊎ (chunks_from setup world producer 0 setup.writers ≤ (range_of setup producer).count)
 
 -- No writer has lost a packet then.
 abbrev pub EnoughChunksLoseNothing : Type 0
