@@ -77,7 +77,7 @@ module _ (scenario : Parts) (setup : Setup) (world : World) (closed : Bool) (don
       omega (arith, least, lowest, same)
 
   -- who made a claim is one of the writers
-  is_there : (place n : ℕ) (ask : Ask) → At (writer world place).asked n ask → place < length setup.writers
+  pub is_there : (place n : ℕ) (ask : Ask) → At (writer world place).asked n ask → place < length setup.writers
   is_there place n ask at = by_place (cases_lt place (length setup.writers))
     where
       by_place : (place < length setup.writers) ⊎ (length setup.writers ≤ place) → place < length setup.writers
@@ -101,7 +101,7 @@ module _ (scenario : Parts) (setup : Setup) (world : World) (closed : Bool) (don
   module _ (order : AreInOrder world.writers) (place calls behind : ℕ) (round : HasVainRounds setup place (writer world place) calls behind)
       (inside : place < length setup.writers) (nobody : may_be_collected setup scenario.lines (producer_of setup place) ≡ false) where
     -- its claim in the first round stands among those of the front
-    lost_here : (chunk : ℕ) → IsChunkOf setup (producer_of setup place) chunk
+    pub lost_here : (chunk : ℕ) → IsChunkOf setup (producer_of setup place) chunk
         → (n : ℕ) × (ask : Ask) × At round.front.asked n ask × (ask.won ≡ false) × (ask.chunk ≡ chunk)
     lost_here chunk own = by_rounds round.rounds.rounds round.rounds.count_is round.rounds.each round.rounds.asks_are
       where

@@ -4,6 +4,7 @@ use Rattle.std.specs.Prelude.{cond, ◌==◌, filter, is_some}
 use Rattle.std.specs.List.{AllZip}
 use Rattle.std.proofs.lemmas.List.{reverse-append}
 use Rattle.std.proofs.lemmas.Bool.{and_parts, false≢true}
+use Rattle.std.proofs.Math.Bool.{or-true}
 use Rattle.trace_model.specs.Images.{Fragment, Chunk}
 use Rattle.trace_model.specs.Pages.{Page, patches_of}
 use Rattle.trace_model.specs.Packets.{Packet, is_lost, kept_of, lost_count}
@@ -128,24 +129,44 @@ one_page size packet older [] none cut =
     let kept = kept_whole packet (none_lost packet older none).0 in
     absurd (subst (λ (packets : List Packet). AllZip (IsChainOf size) packets []) (ap (λ (b : Bool). cond b (packet ∷ kept_of older) (kept_of older)) kept) cut.chains)
 
-two_firsts : (size : ℕ) (p q : Packet) (chains : List Chain) → p.kept ≡ true → q.kept ≡ true → is_lost q ≡ false → p.follows_flush ≡ true
+two_firsts : (size : ℕ) (p q : Packet) (chains : List Chain) → p.kept ≡ true → q.kept ≡ true → p.follows_flush ≡ true
     → AllZip (IsChainOf size) (p ∷ q ∷ []) chains → all_begin_well size (p ∷ q ∷ []) chains ≡ true → AllStart chains → 2 ≤ chains_firsts chains
-two_firsts size p q [] kept_p kept_q whole flushed zip begins starts = absurd zip
-two_firsts size p q (c ∷ []) kept_p kept_q whole flushed zip begins starts = absurd zip.1
-two_firsts size p q (c ∷ d ∷ e ∷ chains) kept_p kept_q whole flushed zip begins starts = absurd zip.1.1
-two_firsts size p q (c ∷ d ∷ []) kept_p kept_q whole flushed zip begins starts =
+two_firsts size p q [] kept_p kept_q flushed zip begins starts = absurd zip
+two_firsts size p q (c ∷ []) kept_p kept_q flushed zip begins starts = absurd zip.1
+two_firsts size p q (c ∷ d ∷ e ∷ chains) kept_p kept_q flushed zip begins starts = absurd zip.1.1
+two_firsts size p q (c ∷ d ∷ []) kept_p kept_q flushed zip begins starts =
     let end : Bool = is_end size (newest_piece (d ∷ [])) in
     let is : all_begin_well size (p ∷ q ∷ []) (c ∷ d ∷ []) ≡ (is_same (begins_chunk c) true && (is_same (begins_chunk d) true && true)) =
     ap (λ (b : Bool). cond b (is_same (begins_chunk c) (is_lost q || (p.follows_flush || end))) (is_lost q || (p.follows_flush || is_end size (newest_piece (c ∷ d ∷ []))))
     && all_begin_well size (q ∷ []) (cond b (d ∷ []) (c ∷ d ∷ []))) kept_p
-    ∙ ap (λ (b : Bool). is_same (begins_chunk c) (b || (p.follows_flush || end)) && all_begin_well size (q ∷ []) (d ∷ [])) whole
-    ∙ ap (λ (b : Bool). is_same (begins_chunk c) (false || (b || end)) && all_begin_well size (q ∷ []) (d ∷ [])) flushed
+    ∙ ap (λ (b : Bool). is_same (begins_chunk c) (is_lost q || (b || end)) && all_begin_well size (q ∷ []) (d ∷ [])) flushed
+    ∙ ap (λ (b : Bool). is_same (begins_chunk c) b && all_begin_well size (q ∷ []) (d ∷ [])) (or-true (is_lost q))
     ∙ ap (λ (b : Bool). is_same (begins_chunk c) true && (cond b (is_same (begins_chunk d) true) true && true)) kept_q in
     let both = and_parts (is_same (begins_chunk c) true) (is_same (begins_chunk d) true && true) (sym is ∙ begins) in
     let last = and_parts (is_same (begins_chunk d) true) true both.1 in
     let one = one_first c.at c.pieces starts.0 (same_true (begins_chunk c) both.0) in
     let other = one_first d.at d.pieces starts.1.0 (same_true (begins_chunk d) last.0) in
     omega (arith, one, other)
+
+-- two packets that were begun, with a flush between them, have two pages, whatever was lost of them later
+pub two_kept : (size : ℕ) (p q : Packet) (pages : List Page) → p.kept ≡ true → q.kept ≡ true → p.follows_flush ≡ true → CutsInto size (p ∷ q ∷ []) pages → 2 ≤ length pages
+two_kept size p q pages kept_p kept_q flushed cut =
+    let all : kept_of (p ∷ q ∷ []) ≡ p ∷ q ∷ [] =
+    ap (λ (b : Bool). cond b (p ∷ kept_of (q ∷ [])) (kept_of (q ∷ []))) kept_p ∙ ap (λ (b : Bool). p ∷ cond b (q ∷ []) []) kept_q in
+    let zip = subst (λ (packets : List Packet). AllZip (IsChainOf size) packets (chains_of pages)) all cut.chains in
+    let firsts_are = chains_counted size pages cut.full in
+    let two = two_firsts size p q (chains_of pages) kept_p kept_q flushed zip cut.begins (chains_start pages) in
+    omega (arith, firsts_are, two)
+
+-- where no packet was begun in a chunk there are no pages
+pub none_kept : (size : ℕ) (packets : List Packet) (pages : List Page) → kept_of packets ≡ [] → CutsInto size packets pages → length pages ≡ 0
+none_kept size packets pages none cut =
+    sym (chains_counted size pages cut.full)
+    ∙ no_chains (chains_of pages) (subst (λ (kept : List Packet). AllZip (IsChainOf size) kept (chains_of pages)) none cut.chains)
+  where
+    no_chains : (chains : List Chain) → AllZip (IsChainOf size) [] chains → chains_firsts chains ≡ 0
+    no_chains [] zip = refl
+    no_chains (chain ∷ chains) zip = absurd zip
 
 -- two packets with a flush between them, neither of which is lost, have two pages
 pub two_pages : (size : ℕ) (packets : List Packet) (pages : List Page) → map (λ (packet : Packet). packet.follows_flush) packets ≡ true ∷ false ∷ [] → lost_count packets ≡ 0
@@ -155,14 +176,7 @@ two_pages size (p ∷ []) pages flags none cut = absurd (let long = ap (λ (bs :
 two_pages size (p ∷ q ∷ r ∷ packets) pages flags none cut = absurd (let long = ap (λ (bs : List Bool). length bs) flags in omega (arith, long))
 two_pages size (p ∷ q ∷ []) pages flags none cut =
     let first = none_lost p (q ∷ []) none in let second = none_lost q [] first.1 in
-    let kept_p = kept_whole p first.0 in let kept_q = kept_whole q second.0 in
-    let flushed : p.follows_flush ≡ true = ap head_or flags in
-    let all : kept_of (p ∷ q ∷ []) ≡ p ∷ q ∷ [] =
-    ap (λ (b : Bool). cond b (p ∷ kept_of (q ∷ [])) (kept_of (q ∷ []))) kept_p ∙ ap (λ (b : Bool). p ∷ cond b (q ∷ []) []) kept_q in
-    let zip = subst (λ (packets : List Packet). AllZip (IsChainOf size) packets (chains_of pages)) all cut.chains in
-    let firsts_are = chains_counted size pages cut.full in
-    let two = two_firsts size p q (chains_of pages) kept_p kept_q second.0 flushed zip cut.begins (chains_start pages) in
-    omega (arith, firsts_are, two)
+    two_kept size p q pages (kept_whole p first.0) (kept_whole q second.0) (ap head_or flags) cut
   where
     head_or : List Bool → Bool
     head_or [] = false

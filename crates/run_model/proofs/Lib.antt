@@ -10,5 +10,6 @@ pub mod ReadLemmas
 pub mod RunLemmas
 pub mod VainLemmas
 pub mod FreshLemmas
+pub mod FirstKeptLemmas
 pub mod WorkedLemmas
 pub mod BehindLemmas

@@ -21,6 +21,7 @@ loses_where_had scenario setup world closed done place number ask at lost =
     ∥∥₁_map₂ done.reached goes.1
     (λ (first : (moves : List Move) × IsSchedule (first_world setup) moves done.stood) (then : (moves : List Move) × IsSchedule done.stood moves goes.0).
     let schedule = schedules_join.both (first_world setup) done.stood goes.0 first.0 then.0 first.1 then.1 in (
+      first.0 ++ then.0,
       goes.0,
       claims_in_vain_find_had setup (first.0 ++ then.0) goes.0 schedule place number ask
           (subst (λ (views : List WriterView). At (get_or views place newcomer).asked number ask) (sym goes.2) at) lost,

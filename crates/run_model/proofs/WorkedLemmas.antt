@@ -1,5 +1,5 @@
 -- Over one chunk that nobody has collected a packet is lost in each run that has two chunks' worth.
-use Rattle.std.proofs.Common.{◌≡◌, ◌∙◌, ℕ, zero, suc, ◌+◌, ◌*◌, ◌<◌, ◌≤◌, ◌⊎◌, inl, inr, Bool, true, false, List, [], ◌∷◌, ◌++◌, length, map, refl, ap, subst, arith}
+use Rattle.std.proofs.Common.{◌≡◌, ◌∙◌, ℕ, zero, suc, ◌+◌, ◌*◌, ◌<◌, ◌≤◌, ◌⊎◌, inl, inr, Bool, true, false, List, [], ◌∷◌, ◌++◌, length, map, refl, sym, ap, subst, arith}
 use Rattle.std.specs.Prelude.{fold}
 use Rattle.std.proofs.lemmas.Bool.{cases_eq}
 use Rattle.std.specs.List.{AllByRecursion, AllZip}
@@ -29,7 +29,8 @@ use Rattle.run_model.specs.Settled.{HasDoneAll, IsRun}
 use Rattle.run_model.specs.Worked.{over_one_chunk, dropping, flushed_between, one_of_each, OneChunkHoldsOnePacket}
 use Rattle.run_model.proofs.AskedLemmas.{Flags, flag_after, flags_are, packet_flag, flags_behind}
 use Rattle.run_model.proofs.ChunkLemmas.{uses_once}
-use Rattle.run_model.proofs.FreshLemmas.{one_page, two_pages}
+use Rattle.run_model.proofs.FirstKeptLemmas.{BeginsFirst, begins_first, begun_first, first_of_two}
+use Rattle.run_model.proofs.FreshLemmas.{one_page, two_pages, two_kept}
 use Rattle.run_model.proofs.RunLemmas.{laid_out, wrote}
 
 -- what a writer that holds no chunk has begun it has completed, in a chunk of its own producer
@@ -168,6 +169,73 @@ flushed first second setup world run = by_count (cases_eq (lost_count (packets_o
         (omega (arith, two)) (omega (arith, two)) in
         absurd (let clash = same.1 in omega (arith, clash))
 
+-- the first of them is begun: its writer is alone, and the second finds the chunk claimed
+first_kept : (first second : List Shown) (setup : Setup) (world : World) → IsRun (flushed_between first second) setup world
+    → map (λ (packet : Packet). packet.kept) (packets_of (writer world 0).calls) ≡ false ∷ true ∷ []
+unfolding line_calls
+first_kept first second setup world run = by_packets (packets_of (writer world 0).calls) refl flags
+  where
+    inside : 0 < length setup.writers
+    inside = let many = ap (λ (s : Setup). length s.writers) run.before.done.setup_is.laid in omega (arith, many)
+
+    of_one : producer_of setup 0 ≡ 1
+    of_one = ap (λ (s : Setup). producer_of s 0) run.before.done.setup_is.laid
+
+    nobody : may_be_collected setup (flushed_between first second).lines 1 ≡ false
+    nobody = ap (λ (s : Setup). may_be_collected s (flushed_between first second).lines 1) run.before.done.setup_is.laid
+
+    fits : IsSetUp (flushed_between first second).buffers (flushed_between first second).producers (dropping ∷ [])
+    fits = set_up (dropping ∷ []) (flushed_between first second).lines (omega arith) (a_writer (flushed_between first second).lines, tt)
+
+    flags : map (λ (packet : Packet). packet.follows_flush) (packets_of (writer world 0).calls) ≡ true ∷ false ∷ []
+    flags = flags_are (writer world 0).calls (calls_asked 1 (flushed_between first second).lines ++ Flushed ∷ []) (run.before.done.writers 0 inside).asked
+        ∙ ap (λ (f : Flags). f.0) (flushed_flags first second)
+
+    own : IsChunkOf setup (producer_of setup 0) 0
+    own =
+        let range = one_range (dropping ∷ []) run.before.done.setup_is.specs run.before.done.setup_is.made in
+        let least : (range_of setup 1).first ≡ 0 = ap (λ (s : Setup). (range_of s 1).first) run.before.done.setup_is.laid ∙ range.0 in
+        let count : (range_of setup 1).count ≡ 1 = ap (λ (s : Setup). (range_of s 1).count) run.before.done.setup_is.laid ∙ range.1 in
+        subst (λ (n : ℕ). IsChunkOf setup n 0) (sym of_one) (record { least = omega (arith, least); below = omega (arith, least, count) })
+
+    begins : BeginsFirst (writer world 0).calls
+    begins = begins_first setup world 0 _ (run.before.done.writers 0 inside).vain (run.before.done.writers 0 inside).asked
+
+    kept : begins.kept ≡ true
+    kept = begun_first (flushed_between first second) setup world _ run.before.done run.before.taken_by.collected (laid (dropping ∷ []) (flushed_between first second).lines fits setup world _ run.before.done run.before.taken_by.collected)
+        (ap (λ (s : Setup). length s.writers) run.before.done.setup_is.laid) 0 own (ap (may_be_collected setup (flushed_between first second).lines) of_one ∙ nobody) begins
+
+    by_packets : (packets : List Packet) → packets_of (writer world 0).calls ≡ packets
+        → map (λ (packet : Packet). packet.follows_flush) (packets_of (writer world 0).calls) ≡ true ∷ false ∷ []
+        → map (λ (packet : Packet). packet.kept) (packets_of (writer world 0).calls) ≡ false ∷ true ∷ []
+    by_packets [] is flags = absurd (let long = ap (λ (bs : List Bool). length bs) (sym (ap (λ (ps : List Packet). map (λ (packet : Packet). packet.follows_flush) ps) is) ∙ flags) in omega (arith, long))
+    by_packets (p ∷ []) is flags = absurd (let long = ap (λ (bs : List Bool). length bs) (sym (ap (λ (ps : List Packet). map (λ (packet : Packet). packet.follows_flush) ps) is) ∙ flags) in omega (arith, long))
+    by_packets (p ∷ q ∷ r ∷ packets) is flags = absurd (let long = ap (λ (bs : List Bool). length bs) (sym (ap (λ (ps : List Packet). map (λ (packet : Packet). packet.follows_flush) ps) is) ∙ flags) in omega (arith, long))
+    by_packets (p ∷ q ∷ []) is flags =
+        ap (λ (ps : List Packet). map (λ (packet : Packet). packet.kept) ps) is
+        ∙ ap (λ (b : Bool). b ∷ q.kept ∷ []) (by_kept p.kept refl) ∙ ap (λ (b : Bool). false ∷ b ∷ []) old
+      where
+        old : q.kept ≡ true
+        old = first_of_two (writer world 0).calls begins.more p q (begins.is ∙ ap (λ (b : Bool). Begun b ∷ begins.more) kept) is
+
+        follows : p.follows_flush ≡ true
+        follows = ap head_or (sym (ap (λ (ps : List Packet). map (λ (packet : Packet). packet.follows_flush) ps) is) ∙ flags)
+          where
+            head_or : List Bool → Bool
+            head_or [] = false
+            head_or (b ∷ bs) = b
+
+        by_kept : (b : Bool) → p.kept ≡ b → p.kept ≡ false
+        by_kept false new = new
+        by_kept true new =
+            let own_cut = wrote (flushed_between first second) setup world _ run.before.done (laid (dropping ∷ []) (flushed_between first second).lines fits setup world _ run.before.done run.before.taken_by.collected) 0 inside in
+            let pages = pages_begun setup 0 (writer world 0) own_cut in
+            let two = two_kept (payload_at setup 0) p q own_cut.cut.cut.pages new old follows
+            (subst (λ (ps : List Packet). CutsInto (payload_at setup 0) ps own_cut.cut.cut.pages) is own_cut.cut.cut.cut) in
+            let same = one_entry (dropping ∷ []) (flushed_between first second).lines fits setup world _ run.before.done run.before.taken_by.collected 0 0 0 1 inside inside of_one of_one nobody
+            (omega (arith, two, pages)) (omega (arith, two, pages)) in
+            absurd (let clash = same.1 in omega (arith, clash))
+
 -- ---- a packet of each of two writers
 
 each_flags : (number : ℕ) (first second : List Shown) → (number ≡ 1) ⊎ (number ≡ 2)
@@ -209,4 +277,4 @@ each first second setup world run = by_count (cases_eq (lost_count (packets_of (
         absurd (let clash = same.0 in omega (arith, clash))
 
 pub one_chunk_holds_one_packet : OneChunkHoldsOnePacket
-one_chunk_holds_one_packet = record { flushed = flushed; each = each }
+one_chunk_holds_one_packet = record { flushed = flushed; first_kept = first_kept; each = each }

@@ -7,6 +7,7 @@ use Rattle.chunk_plain.specs.Setup.{Setup, producer_of}
 use Rattle.chunk_plain.specs.Views.{At, Ask, Content, Completed}
 use Rattle.chunk_plain.specs.World.{World, writer}
 use Rattle.chunk_plain.specs.Plain.{first_world}
+use Rattle.chunk_schedules.specs.Moves.{Move}
 use Rattle.chunk_schedules.specs.Laws.{FindsHad}
 use Rattle.scenario_text.specs.declared.scenario.NumberedLine.{NumberedLine}
 use Rattle.scenario_text.specs.Scenario.{Parts}
@@ -76,11 +77,11 @@ pub record NothingIsBegunBehindLosses : Type 0 where
   pub stopped : (scenario : Parts) (setup : Setup) (world : World) (next : Delivered) → StopsBefore scenario setup world next
       → BeginsNoneBehindLosses setup scenario.lines world
 
--- Each claim in vain was made where somebody had the chunk: in a world on the way of a schedule that leads to what was done.
+-- Each claim in vain is a move of a schedule that leads to what was done, made where somebody had the chunk.
 abbrev pub LosesWhereHad : Setup → World → Type 0
 LosesWhereHad setup world = (place number : ℕ) (ask : Ask) → At (writer world place).asked number ask → ask.won ≡ false
-    → ∥ ((other : World) × FindsHad (first_world setup) other place number ask × (other.writers ≡ world.writers)
-    × (other.service ≡ world.service)) ∥₁
+    → ∥ ((moves : List Move) × (other : World) × FindsHad moves (first_world setup) other place number ask
+    × (other.writers ≡ world.writers) × (other.service ≡ world.service)) ∥₁
 
 -- So it is in each run, whole or up to a write that failed.
 pub record LostClaimsFindHad : Type 0 where
