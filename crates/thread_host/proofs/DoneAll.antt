@@ -5,6 +5,7 @@ use Rattle.chunk_plain.specs.Setup.{Setup, producer_of, sequence_of}
 use Rattle.std.proofs.Math.Logic.{∥∥₁_map}
 use Rattle.chunk_plain.specs.Views.{At, Content, Completed, ServiceView, WriterView, taken_of}
 use Rattle.chunk_plain.specs.World.{World, writer}
+use Rattle.chunk_plain.specs.Letters.{AreLetters}
 use Rattle.chunk_plain.specs.Owned.{IsOwned}
 use Rattle.chunk_schedules.specs.Schedules.{IsLed}
 use Rattle.chunk_words.specs.Closed.{HasAllSeats, IsAccount, AllTaken, views_of}
@@ -123,12 +124,12 @@ module _ (scenario : Parts) (settled : Settled) (is : IsSettled scenario settled
       done_all = record {
         setup_is = is.laid;
         many = length-map settled.seats.items known_by ∙ is.many;
-        owned = ∥∥₁_map account (λ (one : (other : World) × IsOwned other × IsLed setup marks other × (other.writers ≡ views_of settled.seats.items) × (other.service ≡ view)).
+        owned = ∥∥₁_map account (λ (one : (other : World) × IsOwned other × IsLed setup marks other × (other.writers ≡ views_of settled.seats.items) × (other.service ≡ view) × AreLetters other).
             (one.0, one.1, one.3, one.4));
         free = serves.agrees.none_read;
         stood = is.stood;
         reached = is.reached;
-        leads = ∥∥₁_map account (λ (one : (other : World) × IsOwned other × IsLed setup marks other × (other.writers ≡ views_of settled.seats.items) × (other.service ≡ view)).
+        leads = ∥∥₁_map account (λ (one : (other : World) × IsOwned other × IsLed setup marks other × (other.writers ≡ views_of settled.seats.items) × (other.service ≡ view) × AreLetters other).
             (one.0, one.2.marked is.number is.stood is.marked, one.3, one.4));
         completed = completed_here;
         writers = done_here;

@@ -31,10 +31,13 @@ use Rattle.trace_writer.proofs.accounts.Possible.{begin_loses, field_loses, more
 use Rattle.service_core.specs.Agreement.{spec_at}
 use Rattle.schedule_laws.specs.Resting.{IsBetweenCalls}
 use Rattle.replay_host.specs.Asking.{IsReadyFor, IsCalled, IsStalledCall, noted_as}
+use Rattle.trace_writer.specs.Answered.{KeepsCompleted}
+use Rattle.trace_writer.proofs.holding.Answering.{works_keep_completed}
 use Rattle.replay_host.proofs.AskedLemmas.{route_is}
 use Rattle.replay_host.proofs.FieldLemmas.{calls_before}
 use Rattle.replay_host.proofs.ReadyLemmas.{NotesFor, loses_more, ready_behind, notes_begun, notes_number, notes_bytes, notes_nested}
 use Rattle.replay_host.proofs.WroteLemmas.{size_is}
+use Rattle.run_model.specs.Collected.{asks_help}
 use Rattle.run_model.specs.Vain.{GoesOnInTurn, EndsInVain}
 use Rattle.run_model.proofs.InTurnLemmas.{in_turn_behind}
 use Rattle.thread_writer.specs.declared.helper.Asks.{Asks}
@@ -43,7 +46,7 @@ use Rattle.thread_writer.specs.Asking.{MayAsk, IsHelp}
 use Rattle.chunk_words.specs.Named.{identity_of}
 use Rattle.thread_writer.specs.Lent.{lent}
 use Rattle.thread_writer.specs.Writing.{core_of, view_in, Writes}
-use Rattle.thread_writer.proofs.Calls.{writes_back}
+use Rattle.thread_writer.proofs.Calls.{Stays, writes_back}
 use Rattle.thread_writer.proofs.Identity.{works_stay}
 use Rattle.thread_host.specs.Playing.{NeverRefuses, IsGoing, WasAsked}
 use Rattle.thread_host.proofs.Doing.{done_more, call_done}
@@ -65,7 +68,7 @@ works_on helps producer never stalls (Gets helper old seat next moved stopped le
 works_on helps producer never stalls (Helped helper old seat asking asker helped freed stopped left new after waits out helped_it more) =
     works_on helps producer never stalls more
 works_on helps producer never stalls (Refused helper old seat asking asker left kept new after waits out helped_it last) =
-    absurd (never stalls helper.help producer left.help helped_it.0.1)
+    absurd (never (ap asks_help stalls) helper.help producer left.help helped_it.0.1)
 works_on helps producer never stalls (Lost helper old seat mid between new after drops out last) =
     absurd (let wrong : Drops ≡ Stalls = sym drops ∙ stalls in cc)
 works_on helps producer never stalls (Tried helper old seat tries kept next moved stopped left new after trying tried more) = works_on helps producer never stalls more
@@ -163,7 +166,7 @@ module _ {H : Type 0} (helps : H → ℕ → Bool → H → Type 0) (of_table : 
           let wrong : true ≡ false = works_on helps (route_of core).spec.producer never stalled.policy_is stalled.works in
           absurd cc
 
-      module _ (policy : after.policy ≡ writer.policy) (called : IsCalled shared.means (MayAsk of_table) (IsHelp helps) call help (lent table) core left new (core_of after)) where
+      module _ (policy : after.policy ≡ writer.policy) (answered : after.answered ≡ writer.answered) (called : IsCalled shared.means (MayAsk of_table) (IsHelp helps) call help (lent table) core left new (core_of after)) where
         place_stays : (core_of after).seat.place ≡ (core_of writer).seat.place
         place_stays = called.others.place_stays ∙ ap (λ (c : WriterCore WriterSeat). c.seat.place) is
 
@@ -178,12 +181,30 @@ module _ {H : Type 0} (helps : H → ℕ → Bool → H → Type 0) (of_table : 
             route_is (setup_in table.now) (core_of writer).seat.place (route_of (core_of after)) agrees.writes.route
             ∙ sym (route_is (setup_in table.now) (core_of writer).seat.place (route_of (core_of writer)) going.writes.agrees.writes.route)
 
-        writes : Writes table.now after
-        writes = writes_back (lent table) new writer after going.writes policy (ap (λ (s : WriterSpec). s.policy) same_spec) same_table
-            called.others.setup_stays called.others.seat_stays place_stays agrees
-
         notes : (view_in after).calls ≡ (view_in writer).calls ++ noted_as called.stopped (route_of core).spec.policy call
         notes = called.notes ∙ ap (λ (c : WriterCore WriterSeat). (known_by c.seat).calls ++ noted_as called.stopped (route_of core).spec.policy call) is
+
+        same_size : (route_of (core_of after)).payload_size ≡ (route_of (core_of writer)).payload_size
+        same_size =
+            let setup : Setup = setup_in table.now in let at = (core_of writer).seat.place in let before = going.writes.agrees in
+            let has : HasProducer setup (producer_of setup at) =
+            subst (HasProducer setup) (ap (λ (s : WriterSpec). s.producer) (route_is setup at (route_of (core_of writer)) before.writes.route)) before.writes.route.producer in
+            size_is setup at (view_in after) (core_of after).writer agrees table.now.laid has
+            ∙ sym (size_is setup at (view_in writer) (core_of writer).writer before table.now.laid has)
+
+        -- what it completed stays, and so do its answers
+        stays : Stays (view_in writer) (view_in after)
+        stays = (
+          noted_as called.stopped (route_of core).spec.policy call,
+          notes,
+          subst (λ (c : WriterCore WriterSeat). KeepsCompleted (known_by c.seat).begun (view_in after).begun) is
+              (works_keep_completed shared.means (route_of core) (IsHelp helps) called.works),
+        )
+
+        writes : Writes table.now after
+        writes = writes_back (lent table) new writer after going.writes policy answered (ap (λ (s : WriterSpec). s.policy) same_spec) same_size same_table
+            called.others.setup_stays called.others.seat_stays place_stays agrees
+            (called.others.letters_stay ∙ ap (λ (c : WriterCore WriterSeat). (known_by c.seat).letters) is) stays
 
         notes_it : NotesFor call (noted_as called.stopped (route_of core).spec.policy call)
         notes_it = notes_for (account_of going.ready.asked).packets called.stopped (route_of core).spec.policy call going.ready.accepted.0 called.drops

@@ -1,7 +1,10 @@
 -- The service and the writers of a host, as a run names them and as it leaves them.
-use Rattle.std.proofs.Common.{◌≡◌, ◌∙◌, ℕ, ◌+◌, ◌<◌, Option, Some, None, List, ◌++◌, length, take, drop, sym, subst, arith}
+use Rattle.std.proofs.Common.{◌≡◌, ◌∙◌, ℕ, ◌+◌, ◌-◌, ◌<◌, ◌≤◌, Option, Some, None, List, ◌++◌, length, length-append, take, drop, sym, subst, arith}
 use Rattle.std.specs.Prelude.{IsSomeAnd, slice_index_or}
-use Rattle.std.proofs.Math.Seq.{take-append_seam}
+use native.Mathlib.Decide.{dec_lt}
+use mathlib.Core.Logic.{dite}
+use Rattle.std.proofs.Math.Seq.{take-append_seam, get_or-append_right}
+use Rattle.std.proofs.lemmas.List.{get_or_append_left}
 use Rattle.std.proofs.lemmas.Option.{slice_get-get_or, slice_get_within, get_or_from_slice_get}
 use Rattle.chunk_plain.specs.Setup.{Setup}
 use Rattle.chunk_words.specs.declared.host.HostTable.{HostTable}
@@ -29,6 +32,7 @@ serves_named table service serves other named = record {
     waits = subst (λ (s : Setup). Waits s service.core.seat.seat.me) (sym named.setup_is) serves.attends.waits;
   };
   agrees = subst (λ (s : Setup). ServiceAgrees s (serving.view_in service) service.core) (sym named.setup_is) serves.agrees;
+  asked = serves.asked;
 }
 
 -- no image comes by a commit where chunks are taken
@@ -66,6 +70,26 @@ all_played lines table old new many played = record {
       (subst (λ (at : ℕ). HasPlayed lines table at (slice_index_or new place writer)) (none_before place)
       (played.each place writer (subst (λ (count : ℕ). place < count) played.many (slice_get_within new place writer there))));
 }
+
+-- and so have the writers of two lists, one behind the other, which begin at such places
+pub both_played : (lines : List NumberedLine) (table : HostTable) (from behind : ℕ) (firsts rests first rest : List TraceWriter) → behind ≡ from + length firsts
+    → HavePlayedFrom lines table from firsts first → HavePlayedFrom lines table behind rests rest
+    → HavePlayedFrom lines table from (firsts ++ rests) (first ++ rest)
+both_played lines table from behind firsts rests first rest at one two =
+    let before = length-append firsts rests in let after = length-append first rest in
+    let front = one.many in let back = two.many in
+    record {
+      many = omega (arith, before, after, front, back);
+      each = λ index any below. dite (dec_lt index (length first))
+          (λ inside. subst (HasPlayed lines table (from + index)) (sym (get_or_append_left first rest any index inside))
+          (one.each index any (omega (arith, inside, front))))
+          (λ outside.
+          let beyond : length first ≤ index = omega (arith, outside) in
+          let place : behind + (index - length first) ≡ from + index = omega (arith, at, front, beyond) in
+          subst (HasPlayed lines table (from + index)) (sym (get_or-append_right first rest index any beyond))
+          (subst (λ (n : ℕ). HasPlayed lines table n (slice_index_or rest (index - length first) any)) place
+          (two.each (index - length first) any (omega (arith, below, before, front, beyond)))));
+    }
 
 -- ---- what is away for a while
 

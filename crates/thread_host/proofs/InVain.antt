@@ -60,7 +60,7 @@ chunks_kept (Held chunk head ∷ old) (Completed other content ∷ new) keeps =
     ap (λ (k : ℕ). k ∷ map chunk_of new) keeps.0 ∙ ap (λ (l : List ℕ). chunk ∷ l) (chunks_kept old new keeps.1)
 chunks_kept (Completed chunk content ∷ old) (Held other next ∷ new) keeps = absurd keeps
 chunks_kept (Completed chunk content ∷ old) (Completed other later ∷ new) keeps =
-    ap (λ (k : ℕ). k ∷ map chunk_of new) keeps.0 ∙ ap (λ (l : List ℕ). chunk ∷ l) (chunks_kept old new keeps.1)
+    ap (λ (k : ℕ). k ∷ map chunk_of new) keeps.0 ∙ ap (λ (l : List ℕ). chunk ∷ l) (chunks_kept old new keeps.2)
 
 -- and so where no claim won
 none_won : (old new : List BegunChunk) (asks : List Ask) → KeepsChunks old new → won_chunks asks ≡ [] → map chunk_of new ≡ map chunk_of old ++ won_chunks asks

@@ -2,7 +2,7 @@
 use Rattle.std.proofs.Common.{◌≡◌, ◌∙◌, ℕ, suc, Bool, true, false, not, List, [], ◌∷◌, ◌++◌, length, map, refl, sym, ap, subst, arith, append-nil}
 use Rattle.std.specs.Borrow.{Bor}
 use Rattle.atomic_table.specs.Seated.{TableId}
-use Rattle.trace_base.specs.declared.policy.WriterPolicy.TheVariants.{Drops, Stalls}
+use Rattle.trace_base.specs.declared.policy.WriterPolicy.TheVariants.{Drops}
 use Rattle.trace_base.specs.declared.policy.WriterSpec.{WriterSpec}
 use Rattle.trace_model.specs.Calls.{Flushed}
 use Rattle.trace_model.specs.Packets.{packets_of, lost_count}
@@ -28,6 +28,7 @@ use Rattle.service_core.specs.Agreement.{spec_at}
 use Rattle.replay_model.proofs.ScrapedLemmas.{counted}
 use Rattle.replay_host.proofs.ReadyLemmas.{between_is}
 use Rattle.replay_host.proofs.WroteLemmas.{begun_many}
+use Rattle.run_model.specs.Collected.{asks_help}
 use Rattle.run_model.specs.Noted.{done_calls}
 use Rattle.run_model.specs.Vain.{LosesInVain}
 use Rattle.thread_writer.specs.declared.helper.Asks.{Asks}
@@ -46,9 +47,9 @@ use Rattle.thread_host.proofs.InVain.{vain_none, vain_flushed, chunks_kept}
 -- no helper refuses a writer that drops
 pub drops_never : {H : Type 0} (helps : H → ℕ → Bool → H → Type 0) (lines : List NumberedLine) (table : HostTable) (place : ℕ) (writer : TraceWriter)
     → IsReady lines table place writer → (route_of (core_of writer)).spec.policy ≡ Drops → NeverRefuses helps (spec_at (setup_in table).writers place).policy
-drops_never helps lines table place writer ready drops stalls =
+drops_never helps lines table place writer ready drops asks =
     let spec = spec_is table place writer ready.writes ready.place_is in
-    absurd (let wrong : Drops ≡ Stalls = sym drops ∙ ap (λ (s : WriterSpec). s.policy) spec ∙ stalls in cc)
+    absurd (let wrong : false ≡ true = ap asks_help (sym drops ∙ ap (λ (s : WriterSpec). s.policy) spec) ∙ asks in cc)
 
 -- with a helper that never refuses it, it plays its lines
 pub begins : {H : Type 0} (helps : H → ℕ → Bool → H → Type 0) (of_table : H → TableId → Type 0) (lines : List NumberedLine) (table : HostTable) (place number : ℕ)

@@ -15,6 +15,7 @@ use Rattle.chunk_words.specs.declared.host.HostTable.{HostTable}
 use Rattle.chunk_words.specs.declared.seats.ServiceSeat.{ServiceSeat}
 use Rattle.chunk_words.specs.declared.seats.WriterSeat.{WriterSeat}
 use Rattle.chunk_words.specs.Closed.{views_of}
+use Rattle.chunk_plain.specs.Letters.{last_flush}
 use Rattle.chunk_words.specs.Knows.{Desk, Tale, with_tale}
 use Rattle.chunk_words.specs.Sits.{Sits, setup_in, known_by}
 use Rattle.scenario_text.specs.declared.scenario.NumberedLine.{NumberedLine}
@@ -90,10 +91,10 @@ few_begun begun none few = let all = counted begun in omega (arith, all, none, f
 -- what the service hears of it
 pub heard_last : (lines : List NumberedLine) (table : HostTable) (place : ℕ) (view : ServiceView) (desk : Desk) (writer : TraceWriter) (seat : WriterSeat)
     → HasPlayed lines table place writer → known_by seat ≡ view_in writer → length (completed_images (view_in writer).begun) ≤ ID_LIMIT
-    → HasHeard (length view.looks) (with_tale desk view (core_of writer).seat.place (view_in writer).begun) place seat
+    → HasHeard (length view.looks) (with_tale desk view (core_of writer).seat.place (view_in writer).begun (last_flush (view_in writer).letters.answers)) place seat
 heard_last lines table place view desk writer seat played knows few =
     let begun = (view_in writer).begun in
-    let tale : Tale = record { place = (core_of writer).seat.place; looks = length view.looks; begun = begun } in
+    let tale : Tale = record { place = (core_of writer).seat.place; looks = length view.looks; begun = begun; flush = last_flush (view_in writer).letters.answers } in
     record {
       number = length desk.told;
       tale = tale;
@@ -105,12 +106,12 @@ heard_last lines table place view desk writer seat played knows few =
     }
 
 -- and what it had heard before
-heard_more : (looks : ℕ) (desk : Desk) (view : ServiceView) (number : ℕ) (begun : List BegunChunk) (place : ℕ) (seat : WriterSeat) → HasHeard looks desk place seat
-    → HasHeard looks (with_tale desk view number begun) place seat
-heard_more looks desk view number begun place seat heard = record {
+heard_more : (looks : ℕ) (desk : Desk) (view : ServiceView) (number : ℕ) (begun : List BegunChunk) (flush place : ℕ) (seat : WriterSeat) → HasHeard looks desk place seat
+    → HasHeard looks (with_tale desk view number begun flush) place seat
+heard_more looks desk view number begun flush place seat heard = record {
   number = heard.number;
   tale = heard.tale;
-  told = at_longer desk.told (record { place = number; looks = length view.looks; begun = begun } ∷ []) heard.number heard.tale heard.told;
+  told = at_longer desk.told (record { place = number; looks = length view.looks; begun = begun; flush = flush } ∷ []) heard.number heard.tale heard.told;
   place_is = heard.place_is;
   begun_is = heard.begun_is;
   heard = heard.heard;
@@ -119,12 +120,12 @@ heard_more looks desk view number begun place seat heard = record {
 
 -- ---- one behind another
 
-pub heard_all : (looks : ℕ) (desk : Desk) (view : ServiceView) (number : ℕ) (begun : List BegunChunk) (seats : List WriterSeat) (seat : WriterSeat)
-    → HasHeardAll looks desk seats → HasHeard looks (with_tale desk view number begun) (length seats) seat
-    → HasHeardAll looks (with_tale desk view number begun) (seats ++ seat ∷ [])
-heard_all looks desk view number begun seats seat before last =
-    pushed_each (HasHeard looks (with_tale desk view number begun)) seats seat
-    (λ place other there. heard_more looks desk view number begun place other (before place other there)) last
+pub heard_all : (looks : ℕ) (desk : Desk) (view : ServiceView) (number : ℕ) (begun : List BegunChunk) (flush : ℕ) (seats : List WriterSeat) (seat : WriterSeat)
+    → HasHeardAll looks desk seats → HasHeard looks (with_tale desk view number begun flush) (length seats) seat
+    → HasHeardAll looks (with_tale desk view number begun flush) (seats ++ seat ∷ [])
+heard_all looks desk view number begun flush seats seat before last =
+    pushed_each (HasHeard looks (with_tale desk view number begun flush)) seats seat
+    (λ place other there. heard_more looks desk view number begun flush place other (before place other there)) last
 
 pub done_all : (lines : List NumberedLine) (table : HostTable) (seats : List WriterSeat) (seat : WriterSeat) (sequences : List SequenceCounts) (counts : SequenceCounts)
     → length seats < length sequences → AreDoneSeats lines table seats sequences → IsDoneSeat lines table (length seats) seat counts

@@ -1,5 +1,5 @@
 -- A writer of threads while it plays its lines: what it was asked for, and what is still to come.
-use Rattle.std.specs.Prelude.{◌≡◌, ℕ, Bool, false, List, ◌++◌, map}
+use Rattle.std.specs.Prelude.{◌≡◌, ℕ, Bool, true, false, List, ◌++◌, map}
 use Rattle.atomic_table.specs.Seated.{TableId}
 use Rattle.trace_base.specs.declared.policy.WriterPolicy.{WriterPolicy}
 use Rattle.trace_base.specs.declared.policy.WriterPolicy.TheVariants.{Stalls}
@@ -14,6 +14,7 @@ use Rattle.world_model.specs.FirstBuffers.{payload_at}
 use Rattle.trace_writer.specs.Core.{is_stalled}
 use Rattle.service_core.specs.Agreement.{spec_at}
 use Rattle.replay_host.specs.Asking.{IsReadyFor}
+use Rattle.run_model.specs.Collected.{asks_help}
 use Rattle.run_model.specs.Noted.{done_calls}
 use Rattle.run_model.specs.Vain.{LosesInVain}
 use Rattle.thread_writer.specs.declared.helper.Asks.{Asks}
@@ -21,9 +22,9 @@ use Rattle.thread_writer.specs.declared.writer.TraceWriter.{TraceWriter}
 use Rattle.chunk_words.specs.Named.{identity_of}
 use Rattle.thread_writer.specs.Writing.{core_of, view_in, Writes}
 
--- Whoever asks such a helper for a writer of this policy is never told that nothing came free. A writer that drops asks nobody, and one that tries so often stalls for no answer.
+-- Whoever asks such a helper for a writer of this policy is never told that nothing came free. A writer that drops asks nobody.
 abbrev pub NeverRefuses : {H : Type 0} → (H → ℕ → Bool → H → Type 0) → WriterPolicy → Type 0
-NeverRefuses {H} helps policy = policy ≡ Stalls → (helper : H) (producer : ℕ) (after : H) → helps helper producer false after → ⊥
+NeverRefuses {H} helps policy = asks_help policy ≡ true → (helper : H) (producer : ℕ) (after : H) → helps helper producer false after → ⊥
 
 -- What the writer at this place has noted is just what was asked of it, and it has begun just the chunks that its claims won, in their order. Packets may
 -- be lost, each behind rounds of claims in vain, but none of one that stalls. It isn't stalled, it accepts what is to come, and it has a helper of its

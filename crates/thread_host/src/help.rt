@@ -3,9 +3,8 @@ ghost use Rattle.std.specs.Prelude.{◌≡◌, true};
 ghost use Rattle.run_model.specs.Collected.{may_be_collected};
 ghost use Rattle.thread_host.specs.Keeping.{IsNamed, named_prop};
 
-use crate::locked::Locked;
+use crate::locked::{Locked, Takings};
 use crate::name::HostName;
-use crate::takings::Takings;
 use chunk_words::HostTable;
 use std::sync::ledger::Ledger;
 use std::sync::{Mutex, Wait};

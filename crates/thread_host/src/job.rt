@@ -9,9 +9,8 @@ ghost use Rattle.thread_service.specs.Reading.{IsKnownWhole};
 ghost use Rattle.thread_host.specs.Keeping.{IsNamed};
 ghost use Rattle.thread_host.specs.Jobs.{KeepsLoans, FailsLine, FailsLines, TellsLine, TellsLines, takings_of, takings_in};
 
-use crate::locked::Locked;
+use crate::locked::{Locked, Takings};
 use crate::name::HostName;
-use crate::takings::Takings;
 use byte_io::put::WriteFault;
 use byte_io::traits::{Gate, Sink};
 use chunk_words::{HostTable, ReadPass};

@@ -19,16 +19,14 @@ mod name;
 mod playing;
 mod running;
 mod settled;
-mod takings;
 mod whole;
 mod writing;
 
 pub use help::LockHelp;
 pub use host::Host;
 pub use job::service_job;
-pub use locked::Locked;
+pub use locked::{Locked, Takings};
 pub use name::HostName;
 pub use settled::Settled;
-pub use takings::Takings;
 pub use whole::run;
 pub use writing::writer_job;

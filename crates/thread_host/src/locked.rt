@@ -1,5 +1,5 @@
-//! The service behind a lock.
-ghost use Rattle.std.specs.Prelude.{◌≡◌, ◌+◌, true, List, IfOk, OnErr, OnOk};
+//! The service behind a lock, and how often it was asked there to take chunks.
+ghost use Rattle.std.specs.Prelude.{◌≡◌, ◌+◌, ◌<◌, true, List, IfOk, OnErr, OnOk};
 ghost use Rattle.byte_io.specs.Bytes.{CountsFaults};
 ghost use Rattle.trace_model.specs.History as model;
 ghost use Rattle.chunk_words.specs.Knows.{Away, with_stage};
@@ -19,13 +19,49 @@ ghost use Rattle.thread_host.specs.Keeping.{IsNamed, ServesNamed, AllOpen, Began
 ghost use Rattle.thread_host.specs.Keeping.{serves_named_prop, began_prop, own_prop};
 
 use crate::name::HostName;
-use crate::takings::Takings;
 use byte_io::put::WriteFault;
 use byte_io::traits::Sink;
 use chunk_words::{HostTable, ReadPass};
-use std::marker::PhantomData;
-use std::sync::ledger::Ledger;
+use std::marker::{Model, PhantomData};
+use std::sync::ledger::{Blank, Ledger};
 use thread_service::Service;
+use trace_base::steps::Steps;
+
+/// How often the service was asked to take chunks. Contracts see a number; it takes no bytes when the
+/// program runs. Nothing raises it but the calls of `Locked` that take chunks: a body that says that it
+/// asked for them so often did so, on this service or on another one of the same name.
+#[derive(Drop)]
+pub struct Takings<L: Ledger> {
+    steps: Steps<L>,
+}
+
+impl<L: Ledger> Model for Takings<L> {
+    ghost use Rattle.std.specs.Prelude.{ℕ};
+
+    ghost Value = { ℕ };
+
+    ghost view = { λ takings. takings.steps };
+}
+
+impl<L: Ledger> Takings<L> {
+    /// None yet, on a ledger of its own.
+    pub fn new(blank: Blank) -> Self
+        requires name { blank.name ≡ L.name }
+        requires parts { blank.parts ≡ L.parts }
+        requires some_part { 0 < L.parts }
+        ensures { result ≡ 0 }
+    {
+        let steps = Steps::new(blank);
+        Takings { steps }
+    }
+
+    /// One more.
+    fn count(&mut self)
+        ensures { self.new ≡ self.old + 1 }
+    {
+        self.steps.tick();
+    }
+}
 
 /// The service of the table that its type names, none of whose sequences is closed. No image came by a
 /// commit. What it knows is what the type says that it knew, and what was collected, scraped and read

@@ -10,9 +10,8 @@ ghost use Rattle.thread_host.specs.Jobs.{KeepsLoans, FailsLines, TellsLines};
 ghost use Rattle.thread_host.specs.Keeping.{IsNamed, ServesNamed, AllOpen, BeganWith, HasOwn};
 
 use crate::job::service_job;
-use crate::locked::Locked;
+use crate::locked::{Locked, Takings};
 use crate::name::HostName;
-use crate::takings::Takings;
 use crate::writing::writer_job;
 use byte_io::put::WriteFault;
 use byte_io::traits::{Gate, Sink};

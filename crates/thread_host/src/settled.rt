@@ -4,6 +4,7 @@ ghost use Rattle.chunk_plain.specs.declared.tokens.TheConstants.{ID_LIMIT};
 ghost use Rattle.chunk_plain.specs.Histories.{completed_images};
 ghost use Rattle.chunk_words.specs.declared.host.HostTable.{HostTable};
 ghost use Rattle.chunk_words.specs.Closed.{views_of};
+ghost use Rattle.chunk_plain.specs.Letters.{last_flush};
 ghost use Rattle.chunk_words.specs.Knows.{with_tale};
 ghost use Rattle.chunk_words.specs.Sits.{Sits, setup_in, known_by, known_by_pass};
 ghost use Rattle.scenario_text.specs.declared.scenario.NumberedLine.{NumberedLine};
@@ -134,7 +135,8 @@ fn end_writer(
     ensures view { serving.view_in service.new ≡ serving.view_in service.old }
     ensures only { IsOnlySeat (serving.core_of service.old) (serving.core_of service.new) }
     ensures told { serving.desk_in service.new
-        ≡ with_tale (serving.desk_in service.old) (serving.view_in service.old) (core_of writer).seat.place (view_in writer).begun }
+        ≡ with_tale (serving.desk_in service.old) (serving.view_in service.old) (core_of writer).seat.place (view_in writer).begun
+        (last_flush (view_in writer).letters.answers) }
     ensures sits { Sits table.now result.0 }
     ensures knows { known_by result.0 ≡ view_in writer }
     ensures place { result.0.place ≡ (core_of writer).seat.place }

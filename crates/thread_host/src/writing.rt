@@ -6,10 +6,9 @@ ghost use Rattle.thread_host.specs.Keeping.{IsNamed};
 ghost use Rattle.thread_host.specs.Hosts.{IsReady, HasPlayed};
 
 use crate::help::LockHelp;
-use crate::locked::Locked;
+use crate::locked::{Locked, Takings};
 use crate::name::HostName;
 use crate::playing::play_all;
-use crate::takings::Takings;
 use byte_io::traits::Gate;
 use chunk_words::HostTable;
 use scenario_text::LinesByWriter;

@@ -23,5 +23,5 @@ returns g c = record {
       goes_on g.H.Helper.helps g.H.Helper.of_table c.args.table place asked coming (call_of c.args.call)
       c.args.help.now c.args.writer.now c.deref_mut.result.now going c.deref_mut.ensures.value
       c.ask_one.new.help c.ask_one.new.table (record c.args.writer.now { core = padded_with_value c.args.writer.now.core c.ask_one.new.core })
-      refl c.in-Ok.ensures.called;
+      refl refl c.in-Ok.ensures.called;
 }

@@ -2,6 +2,7 @@
 use Rattle.std.proofs.Common.{◌≡◌, ◌∙◌, ℕ, ◌+◌, ◌<◌, Some, List, [], ◌∷◌, ◌++◌, length, length-append, length-set, append_assoc, sym, ap, subst, arith}
 use Rattle.std.specs.Prelude.{slice_get, slice_set}
 use Rattle.trace_base.proofs.Lists.{get_seam}
+use Rattle.chunk_plain.specs.Letters.{last_flush}
 use Rattle.chunk_words.specs.declared.seats.WriterSeat.{WriterSeat}
 use Rattle.chunk_words.specs.Closed.{views_of}
 use Rattle.chunk_words.specs.Knows.{Desk}
@@ -75,7 +76,7 @@ writers-preserved c =
     let looks_same : length (serving.view_in c.writers.service).looks ≡ length (serving.view_in c.end_writer-seat.new.service).looks =
     ap (λ v. length v.looks) (sym ends.view) in
     let last = subst (λ (p : ℕ). HasPlayed c.requires.played.0 c.args.table.now p writer) here played in
-    let heard = heard_all old_looks (serving.desk_in c.writers.service) (serving.view_in c.writers.service) (core_of writer).seat.place (view_in writer).begun
+    let heard = heard_all old_looks (serving.desk_in c.writers.service) (serving.view_in c.writers.service) (core_of writer).seat.place (view_in writer).begun (last_flush (view_in writer).letters.answers)
     seats seat i.heard
     (heard_last c.requires.played.0 c.args.table.now place (serving.view_in c.writers.service) (serving.desk_in c.writers.service) writer seat last ends.knows ends.few) in
     let heard_next = subst (λ (d : Desk). HasHeardAll old_looks d (seats ++ seat ∷ [])) (sym ends.told) heard in

@@ -11,7 +11,7 @@ use Rattle.chunk_plain.specs.declared.setup.ProducerSpec.{ProducerSpec}
 use Rattle.chunk_plain.specs.Laying.{setup_of}
 use Rattle.chunk_plain.specs.Plain.{first_world}
 use Rattle.chunk_plain.specs.Setup.{Setup}
-use Rattle.chunk_plain.specs.Views.{ServiceView}
+use Rattle.chunk_plain.specs.Views.{ServiceView, asked_in}
 use Rattle.chunk_words.specs.Sits.{setup_in, known_by_service}
 use Rattle.trace_buffer.specs.declared.answers.BufferSpec.{BufferSpec}
 use Rattle.service_core.specs.Agreement.{AreKnownNotes, is_closed}
@@ -144,7 +144,8 @@ returns c =
     (subst (IsUnused (length (setup_in table).writers)) (sym (c.pass-pass.ensures.view ∙ c.in_ok-table.ensures.service_view))
     (unused (setup_in table))) in
     let served : IsServed (parts_of scenario) table service =
-    is_served (parts_of scenario) table service (c.in_ok-service.ensures.serves table c.pass-pass.ensures.seat again none) laid
+    is_served (parts_of scenario) table service (c.in_ok-service.ensures.serves table c.pass-pass.ensures.seat again none
+    (ap (λ (v : ServiceView). asked_in v.letters) (c.pass-pass.ensures.view ∙ c.in_ok-table.ensures.service_view))) laid
     (λ place below. subst (λ (s : Setup). is_closed s (serving.core_of service) place ≡ false) (sym again)
     (c.in_ok-service.ensures.open place (subst (λ (ws : List WriterSpec). place < length ws) (sym c.deref-7.ensures.value) below)))
     (c.in_ok-service.ensures.specs ∙ c.deref-5.ensures.value ∙ c.in_ok-buffers.ensures ∙ ap (map buffer_asked) c.deref-2.ensures.value)
