@@ -70,3 +70,19 @@ impl Gate for Both {
         self.second.pass(writer, line);
     }
 }
+
+/// Three of them.
+#[derive(Drop)]
+pub struct Three {
+    pub first: Hold,
+    pub second: Hold,
+    pub third: Hold,
+}
+
+impl Gate for Three {
+    fn pass(&self, writer: u16, line: u64) {
+        self.first.pass(writer, line);
+        self.second.pass(writer, line);
+        self.third.pass(writer, line);
+    }
+}

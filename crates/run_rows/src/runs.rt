@@ -1,5 +1,5 @@
 //! Runs whose gates fix the order that a test is about, and runs that leave it to the threads.
-use crate::gates::{Both, Hold, Place};
+use crate::gates::{Both, Hold, Place, Three};
 use byte_io::memory::{MemSink, MemSource};
 use byte_io::traits::{Gate, OpenGate};
 use std::sync::Wait;
@@ -192,6 +192,40 @@ fn an_ask_frees_what_another_writer_completed(rt: HostRuntime) -> Result<(), Fai
         b"\x0A\x07\x40\x01\x50\x02\xD0\x02\x01\x0A\x07\x40\x02\x50\x03\xD0\x02\x01".as_slice()
     );
     assert_eq!(rt; ran.text.taken(), NEITHER_LOST);
+    Ok(())
+}
+
+const ASKS_FOR_TWO: &[u8] =
+    b"buffer 64 ring\nproducer 1 4096 1\nwriter 1 1 drop\nwriter 1 1 stall:2\np 1 8:1\np 2 8:2\nf 1\np 2 8:3\n";
+
+const ONE_LOST: &[u8] =
+    b"buffer 1 ring bytes 65536 placed 2 rewritten 0 overwritten 0 discarded 0 unpatched 0 padding 0\nsequence 2 begun 1 delivered 1 dropped 0 overwritten 0 discarded 0 cut 0\nsequence 3 begun 2 delivered 1 dropped 1 overwritten 0 discarded 0 cut 0\n";
+
+// Its lines come one behind another, as they stand: the second writer asks in vain for its first packet, and not for its next one. What
+// was written is faithful to the lines.
+#[test]
+fn a_writer_goes_on_behind_a_loss(rt: HostRuntime) -> Result<(), Fail> {
+    let gate = Three {
+        first: Hold::new(Place { job: 2, line: 1 }, Place { job: 1, line: 2 }),
+        second: Hold::new(Place { job: 1, line: 2 }, Place { job: 2, line: 2 }),
+        third: Hold::new(Place { job: 2, line: 2 }, Place { job: 1, line: 3 }),
+    };
+    let ran = run(&rt, ASKS_FOR_TWO.to_vec(rt.alloc())?, &gate)?;
+    assert_eq!(rt; ran.status, 0);
+    assert_eq!(rt; gate.first.ran_out.load(Ordering::SeqCst), 0);
+    assert_eq!(rt; gate.second.ran_out.load(Ordering::SeqCst), 0);
+    assert_eq!(rt; gate.third.ran_out.load(Ordering::SeqCst), 0);
+    assert_eq!(rt;
+        ran.trace.taken(),
+        b"\x0A\x07\x40\x01\x50\x02\xD0\x02\x01\x0A\x0A\xD0\x02\x01\x40\x03\x50\x03\xD0\x02\x01".as_slice()
+    );
+    assert_eq!(rt; ran.text.taken(), ONE_LOST);
+    let mut both = ASKS_FOR_TWO.to_vec(rt.alloc())?;
+    both.extend_from_slice(b"==\n")?;
+    both.extend_from_slice(ran.trace.taken())?;
+    let checked = call(&rt, "check", both, &OpenGate)?;
+    assert_eq!(rt; checked.status, 0);
+    assert_eq!(rt; checked.trace.taken(), b"agrees 2\n".as_slice());
     Ok(())
 }
 
