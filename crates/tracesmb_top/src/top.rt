@@ -45,12 +45,13 @@ pub fn trace_top<R: Threads + Wait + Sync, S: Source, T: Sink + Send, O: Sink, G
     text: &mut O,
     gate: &G,
 ) -> u8
-    // The input may be asked; behind its end, or a read that failed, it isn't asked again. The trace may be written to; behind
-    // a write that failed, it isn't written to again. The text bears that the line of a failed write is tried behind a report
-    // whose writing failed; of the report itself nothing is written then.
+    // The input may be asked; behind its end, or a read that failed, it isn't asked again. Trace and text may be written to;
+    // behind a write that failed, neither is written to again, but for the text of a command that leaves a report: it bears
+    // that the line of a failed write is tried behind a report whose writing failed.
     requires input { S.may_ask input.old }
     requires trace { T.may_write trace.old }
-    requires text { (sink : O) → O.may_write sink }
+    requires text { O.may_write text.old }
+    requires report { (command : Command) → Ask (map string_bytes words.now) command → LeavesReport command → (sink : O) → O.may_write sink }
 
     ensures known { result ≤ 7 }
 

@@ -52,3 +52,8 @@ pub returns-in-Err-Stalled-clause-long : goal.returns-in-Err-Stalled-clause-long
 returns-in-Err-Stalled-clause-long g c = λ command ask reads quiet.
     let taken = c.in-Ok-take_input.ensures.given in
     never_long _ (map string_bytes c.args.words.now) c.in-Ok.command command _ taken.text c.in-Ok.ensures.asked ask reads taken.all taken.short
+
+pub say_report-requires : goal.say_report-requires
+say_report-requires g c =
+    let done = rw c.in-Ok-Some.field-0-is at c.in-Ok-Some.ensures in
+    c.requires.report c.in-Ok.command c.in-Ok.ensures.asked (done.ends c.in-Ok-take_input.ensures.given.text c.in-Ok-take_input.ensures.given.tells).0
