@@ -8,11 +8,12 @@ import writer_scripts
 from account_proofs import proof_of, proofs_of_cuts
 from account_words import HEAD, LEMMAS, WORDS
 from antt_text import Statement, flag, listed, octets, record
-from model import play
+from model import service
+from model.chunks import read_fragments
+from model.geometry import record_size
+from model.limits import MOST_NUMBER
 
 __all__ = ['HEAD', 'LEMMAS', 'PROOF_HEAD', 'UNFOLDING', 'WORDS', 'statements']
-
-STAGE = worlds.STAGE
 
 PROOF_HEAD = '''use Rattle.std.proofs.Common.{◌≡◌, ◌<◌, ◌≤◌, ℕ, true, false, List, [], ◌∷◌, ◌++◌, replicate, refl, arith}
 use Rattle.std.proofs.lemmas.List.Elements.{All-from_recursion}
@@ -34,6 +35,7 @@ UNFOLDING = 'unfolding groups varint tag redundant number_field bytes_head bytes
 
 MOST_EVENTS = 120       # of a scenario
 MOST_CHARACTERS = 50000
+MOST_READ = MOST_NUMBER // 2     # packets that a limit of a line allows
 TIMES_CHARACTERS = 5    # the generated files are so many times as long as others
 
 # What some of the scenarios have.
@@ -47,12 +49,12 @@ class Account:
 
     def __init__(self, name, world):
         self.name, self.world, self.scenario = name, world, world.scenario
-        self.writers = [AccountOfWriter(self, place, writer) for place, writer in enumerate(world.writers)]
+        self.writers = [AccountOfWriter(self, place, writer) for place, writer in enumerate(world.service.writers)]
         self.events = events_in(recorder.WHOLE.events)
         self.records = [(event[1], one) for event in self.events if event[0] == 'read' for one in event[3]]
         assert [one for _, one in self.records] == world.out
-        for writer, reported in zip(self.writers, world.done().sequences):
-            writer.counts = dict(reported)
+        for writer in self.writers:
+            writer.counts = worlds.reported(world, writer.writer)
 
     def of(self, sequence):
         return self.writers[sequence - 2]
@@ -70,7 +72,7 @@ class AccountOfWriter:
         self.pages = writer.pages()
         self.completed = len(writer.images)
         self.emitted = [packet.body()[len(packet.front):] for packet in self.packets[::-1] if packet.finished]
-        self.taken = account.world.service.of_writer(writer.number).taken
+        self.taken = account.world.service.taken[place]
         notes = recorder.notes_of(account.world.service.buffers[self.buffer - 1])
         self.outcomes = list(outcomes_of(self, notes.fixed.get(self.sequence, [])))
 
@@ -112,7 +114,7 @@ def events_in(noted):
 
 def sealed_ends(count, payload):
     """Where the first fragments of a payload end, so many."""
-    return [one.offset + one.size for one in histories.read_fragments(payload, count)]
+    return [one.end for one in read_fragments(payload, count)]
 
 
 def event_term(event):
@@ -126,7 +128,7 @@ def event_term(event):
         return f'Patched {number} {listed(histories.patch_of(patch.chunk_id, patch) for patch in rest[1])}'
     if kind == 'close':
         return f'Closed {number}'
-    return f'Read {number} {limit_term(rest[0])}'
+    return f'Read {number} {histories.limit_term(rest[0])}'
 
 
 def noted_term(event):
@@ -140,11 +142,7 @@ def noted_term(event):
         return f'views.Patched {number} {rest[0]}'
     if kind == 'close':
         return f'views.Closed {number}'
-    return f'views.Read {number} {limit_term(rest[0])}'
-
-
-def limit_term(limit):
-    return 'no_limit' if limit is None else str(limit)
+    return f'views.Read {number} {histories.limit_term(rest[0])}'
 
 
 def look_term(event):
@@ -157,13 +155,11 @@ def look_term(event):
 
 
 def setup_terms(account):
-    policies = {'drop': 'Drops', 'stall': 'Stalls'}
     full = {'ring': 'Ring', 'discard': 'Discard'}
     scenario = account.scenario
-    setup = record(pages=0, spots='[]', ranges='[]', sizes=listed(str(geometry.payload_size) for _, geometry in scenario.producers),
-                   writers=listed(record(producer=spec.producer, buffer=spec.buffer, policy=policies[spec.policy])
-                                  for spec in scenario.writers))
-    buffers = listed(record(size=kb * 1024, policy=full[policy]) for kb, policy in scenario.buffers)
+    setup = record(pages=0, spots='[]', ranges='[]', sizes=listed(str(producer.payload()) for producer in scenario.producers),
+                   writers=listed(map(worlds.spec_term, scenario.writers)))
+    buffers = listed(record(size=buffer.size(), policy=full[buffer.policy]) for buffer in scenario.buffers)
     return setup, buffers
 
 
@@ -182,7 +178,8 @@ def writer_specs(writer):
                      f'contents_of {writer.buffer} {listed(images[:writer.completed])} {patches}')
             + define(f'held_{name}', 'List Image', listed(images[writer.completed:]))
             + define(f'view_{name}', 'views.WriterView',
-                     record(asked='[]', claimed='[]', stamped='None', begun=f'begun_of contents_{name}', calls=f'calls_{name}')))
+                     record(asked='[]', claimed='[]', stamped='None', begun=f'begun_of contents_{name}', calls=f'calls_{name}',
+                            letters='views.no_letters')))
 
 
 def account_specs(account):
@@ -191,7 +188,7 @@ def account_specs(account):
     setup, buffers = setup_terms(account)
     looks = listed(look_term(event) for event in account.events if event[0] == 'partial')
     taken = listed(f'taken_first {writer.taken} contents_{writer.name}' for writer in account.writers)
-    service = record(looks=looks, taken=taken, reading='[]', events=listed(map(noted_term, account.events)), commits='[]')
+    service = record(looks=looks, taken=taken, reading='[]', events=listed(map(noted_term, account.events)), commits='[]', letters='[]')
     views = listed(f'view_{writer.name}' for writer in account.writers)
     held = listed(f'held_{writer.name}' for writer in account.writers)
     records = listed(record(sequence=number, bytes=octets(one)) for number, one in account.records)
@@ -209,7 +206,7 @@ def outcome_term(outcome):
 
 def asked_bytes(account, number):
     """The bytes of all records that a buffer's events ask for."""
-    return sum(account.of(event[1]).writer.chunks.geometry.record_size for event in account.events
+    return sum(record_size(account.of(event[1]).size) for event in account.events
                if event[0] in ('arrive', 'partial') and account.of(event[1]).buffer == number and event[-1] in ('kept', 'discarded'))
 
 
@@ -249,9 +246,9 @@ def counted(account, counts):
     counts['scenarios'] += 1
     for word, parts in (('writers', scenario.writers), ('producers', scenario.producers), ('buffers', scenario.buffers)):
         counts[f'scenarios of several {word}'] += len(parts) > 1
-    counts['closes before the end'] += sum(line[1] == 'x' for line in scenario.lines)
+    counts['closes before the end'] += sum(line.kind == 'x' for line in scenario.lines)
     for event in account.events:
-        counts['reads with a limit'] += event[0] == 'read' and event[2] is not None
+        counts['reads with a limit'] += event[0] == 'read' and event[2] < MOST_READ
         counts['parts of chunks'] += event[0] == 'partial'
         counts['bodies with patches'] += event[0] == 'patched'
     for writer in account.writers:
@@ -264,12 +261,12 @@ def counted(account, counts):
 def accounts(first, wanted):
     """So many whole scenarios of the model with several writers or buffers and a packet, from this seed on."""
     recorder.record_all()
-    play.Writer = worlds.Recorded
+    service.Writer = writer_scripts.Recorded
     made, seed = 0, first
     while made < wanted:
         seed += 1
-        world, whole = histories.played(seed - 1, raw=False, stage=STAGE)
-        if not whole or len(recorder.WHOLE.events) > MOST_EVENTS or not any(writer.begun for writer in world.writers):
+        world = histories.played(seed - 1)
+        if not world or not world.is_whole or len(recorder.WHOLE.events) > MOST_EVENTS or not any(writer.begun for writer in world.service.writers):
             continue
         account = Account(str(seed - 1), world)
         if len(account_specs(account)) > MOST_CHARACTERS:

@@ -1,18 +1,17 @@
 #!/usr/bin/env python3
-"""Turns random runs of a model of the tracing service into statements that the checker computes.
+"""Turns random runs of the second reading (tools/model) into statements that the checker computes.
 
-A wrong definition is shown by nothing else than a wrong number. This script plays random scenarios, and random scripts
-of one writer's calls, on a model that was written apart from these definitions, and says of each run in their words
-what the model answered: each outcome, count, cause, place and byte of the trace, and that a writer's images are a cut of
-its packets. Of whole scenarios it says too that writers, service and trace are an account, and that the account is
-faithful and balanced. Each statement is proved by computing both sides. Wrong numbers, and runs that are spoilt in one
-place, are tried too, and must be refused. The script fails where a branch of the definitions wasn't taken by any
-history, a scenario of some kind wasn't among those that were played, or a way to spoil a run wasn't tried.
+A wrong definition is shown by nothing else than a wrong number. This script plays random histories of buffers, random scenarios, and random
+scripts of one writer's calls, on a program that was written apart from these definitions, and says of each run in their words what it
+answered: each outcome, count, cause, place and byte of the trace, and that a writer's images are a cut of its packets. Of whole scenarios
+it says too that writers, service and trace are an account, and that the account is faithful and balanced. Each statement is proved by
+computing both sides. Wrong numbers, and runs that are spoilt in one place, are tried too, and must be refused. The script fails where a
+branch of the definitions wasn't taken by any history, a scenario of some kind wasn't among those that were played, or a way to spoil a run
+wasn't tried.
 
-How it runs: `compute_definitions.py MODEL` copies the crates with the definitions to a scratch folder, adds a crate
-`computed` with the generated files, some runs in each, and calls `rt check` there, file by file. Nothing of it is kept.
-MODEL is the folder of the model, whose modules are in model/. `--mutate` changes one definition after another, in the
-ways that mutations.py lists, and wants each refused by some run.
+How it runs: `compute_definitions.py` copies the crates with the definitions to a scratch folder, adds a crate `computed` with the generated
+files, some runs in each, and calls `rt check` there, file by file. Nothing of it is kept. `--mutate` changes one definition after another,
+in the ways that mutations.py lists, and wants each refused by some run.
 """
 
 import argparse
@@ -31,7 +30,6 @@ from trial import all_refused, checked, is_as_wanted, passed_among     # noqa: E
 
 def main():
     parser = argparse.ArgumentParser(description=__doc__, formatter_class=argparse.RawDescriptionHelpFormatter)
-    parser.add_argument('model', help='the folder of the model')
     parser.add_argument('--histories', type=int, default=200, help='how many histories of buffers (200)')
     parser.add_argument('--scripts', type=int, default=500, help='how many scripts of a writer (500)')
     parser.add_argument('--writers', type=int, default=100, help='how many writers of whole scenarios (100)')
@@ -43,7 +41,6 @@ def main():
     parser.add_argument('--mutate', metavar='WORDS', nargs='?', const='',
                         help='try wrong definitions, those whose names or kinds of run have these words')
     options = parser.parse_args()
-    sys.path.insert(0, os.path.abspath(options.model))
     scratch = options.keep or tempfile.mkdtemp(prefix='computed-')
     try:
         crate = make_scratch(scratch, laws=options.mutate is None)

@@ -1,14 +1,20 @@
-"""Histories of buffers in random scenarios: each outcome, count, cause, place and byte of the trace. Beside random ones,
-histories are chosen so that each branch of the definitions is taken by some."""
+"""Histories of buffers: each outcome, count, cause, place and byte of the trace. Some are those of random scenarios; others are made of
+random images, also such as no writer leaves. Beside random ones, histories are chosen so that each branch of the definitions is taken by
+some."""
 
+import random
+
+import random_inputs
 import recorder
 from antt_text import Statement, flag, listed, octets, record
-from model import play
-from model.buffers import read_fragments
-from model.faults import Stalled
-from model.random_scenario import random_scenario
-from model.scenario import read_scenario
-from model.stage import Stage
+from model import replay
+from model.chunks import Chunk, Patch, read_fragments
+from model.geometry import record_size
+from model.limits import MOST_NUMBER
+from model.scenario import Refused, read_scenario
+from model.service import Service
+from model.wire import DROP_MARK, four_bytes
+from model.writers import Stalled
 
 PRELUDE = 'ℕ, ◌+◌, ◌-◌, ◌^◌, Bool, true, false, List, [], ◌∷◌, ◌++◌, replicate'
 
@@ -117,7 +123,8 @@ use Rattle.trace_model.specs.Record.{content_of, record_of}
 UNFOLDING = 'unfolding groups varint content_of record_of\n'
 
 LEAST = 2               # histories that take a branch
-MOST_SEEDS = 20000      # scenarios that are looked at for a branch
+MOST_SEEDS = 20000      # seeds that are looked at for a branch
+MOST_EVENTS = 150       # of a history
 
 OUTCOMES = {'kept': 'Kept', 'rewritten': 'Rewritten', 'duplicate': 'Duplicate', 'discarded': 'Discarded',
             'too far': 'TooFar'}
@@ -130,8 +137,7 @@ def outcome_of(text):
 
 
 def fragment(payload, one):
-    return record(bytes=octets(payload[one.offset:one.offset + one.size]), dropped=flag(one.dropped),
-                  offset=one.offset)
+    return record(bytes=octets(payload[one.offset:one.end]), dropped=flag(one.dropped), offset=one.offset)
 
 
 def chunk_of(count, flags, payload, partial=False):
@@ -141,7 +147,7 @@ def chunk_of(count, flags, payload, partial=False):
 
 
 def patch_of(position, patch):
-    return record(chunk_id=position, offset=patch.offset, bytes=octets(patch.data), last=flag(patch.last))
+    return record(chunk_id=position, offset=patch.offset, bytes=octets(patch.bytes), last=flag(patch.last))
 
 
 def patches_behind(history, at, number):
@@ -185,24 +191,126 @@ def events_of(notes, choose):
             events.append(f'Closed {number}')
         else:
             limit, written, end = rest
-            events.append(f'Read {number} {"no_limit" if limit is None else limit}')
+            events.append(f'Read {number} {limit_term(limit)}')
             records += written
             ends.append(end)
     return events, answers, records, ends, cursors, commits
 
 
-def played(seed, **which):
-    """The model's world of a random scenario, whose buffers have their notes; None where a writer stalled."""
-    recorder.NOTES.clear()
-    recorder.WHOLE.__init__()
-    stage = Stage(which['stage']) if 'stage' in which else Stage()
-    world = play.World(read_scenario(random_scenario(seed, **which), stage))
+def limit_term(limit):
+    return 'no_limit' if limit == MOST_NUMBER else str(limit)
+
+
+class World:
+    """A scenario that is played, with its service and the records of its reads. It is whole where no writer stalled."""
+
+    def __init__(self, scenario):
+        self.scenario, self.service, self.out = scenario, Service(scenario), []
+        try:
+            replay.play_lines(self.service, scenario.lines, self.out)
+            self.out += self.service.finish()
+            self.is_whole = True
+        except Stalled:
+            self.is_whole = False
+
+
+def played(seed):
+    """The world of a random scenario, whose buffers have their notes; None where the scenario is refused."""
+    recorder.forget()
     try:
-        world.play_lines()
-        world.end()
-    except Stalled:
-        return world, False
-    return world, True
+        return World(read_scenario(random_inputs.scenario(seed, tries=False)))
+    except Refused:
+        return None
+
+
+class HistoryMaker:
+    """A small buffer, and random images, patches and reads for it; nothing comes behind a close of its sequence."""
+
+    def __init__(self, seed):
+        recorder.forget()
+        self.random = random.Random(f'history {seed}')
+        self.buffer = recorder.Buffer(self.pick(112, 128, 176, 208, 256), self.pick('ring', 'ring', 'discard'))
+        self.payloads = {}
+        for number in range(2, 2 + self.pick(1, 1, 2)):
+            self.payloads[number] = self.pick(16, 24, 40)
+            self.buffer.add_sequence(number, record_size(self.payloads[number]))
+        for _ in range(self.pick(5, 15, 30)):
+            self.step(self.pick(*self.payloads))
+        for number in self.payloads:
+            if not self.buffer.sequences[number].closed and self.chance(.7):
+                self.buffer.close_sequence(number)
+            self.read(number)
+
+    def pick(self, *choices):
+        return self.random.choice(choices)
+
+    def chance(self, of):
+        return self.random.random() < of
+
+    def step(self, number):
+        sequence, roll = self.buffer.sequences[number], self.random.random()
+        if roll < .2 or sequence.closed:
+            self.read(number)
+        elif roll < .3:
+            self.buffer.patch(number, self.patch(sequence))
+        elif roll < .33:
+            self.buffer.close_sequence(number)
+        elif roll < .5:
+            part = self.chunk(number)
+            if self.is_readable(part):
+                self.buffer.arrive_partial(number, part.first_fragments(part.count))
+        else:
+            chunk = self.chunk(number)
+            if self.buffer.arrive(number, chunk).startswith('bad chunk'):
+                return
+            for _ in range(self.pick(0, 0, 0, 1, 2)):
+                self.buffer.patch(number, self.patch(sequence))
+
+    def is_readable(self, chunk):
+        """Of a chunk that is still held only readable fragments are taken, and none with a drop mark."""
+        try:
+            return not any(one.dropped for one in read_fragments(chunk.payload, chunk.count))
+        except Exception:
+            return False
+
+    def read(self, number):
+        recorder.reading.read_sequence(self.buffer.sequences[number], self.pick(MOST_NUMBER, MOST_NUMBER, 0, 1, 2))
+
+    def chunk_id(self, sequence):
+        near = sequence.least_missing
+        return max(0, self.pick(near, near, near, near, near, near + 1, near + 2, near - 1, sequence.cursor[0], near + 1_023, near + 1_024))
+
+    def chunk(self, number):
+        """An image of some fragments, which may be wrong."""
+        size, payload = self.payloads[number], b''
+        count = self.pick(0, 1, 1, 1, 2, 2, 3) if self.chance(.1) else self.pick(1, 1, 2, 2, 3)
+        for at in range(count):
+            body = self.random.randbytes(self.pick(0, 1, 2, 4, 5))
+            if at == count - 1 and self.chance(.15):
+                payload += DROP_MARK
+                break
+            payload += (four_bytes(len(body)) if self.chance(.8) else bytes([len(body)])) + body
+        if self.chance(.04):
+            payload = payload[:-1] + b'\xff\xff\xff\xff\xff'
+        payload = (payload + bytes(size))[:size]
+        return Chunk(self.chunk_id(self.buffer.sequences[number]), count, self.pick(0, 0, 0, 1, 2, 3, 6, 7, 4), bytearray(payload))
+
+    def patch(self, sequence):
+        """A patch for a record that is there, mostly."""
+        live = list(sequence.live.values())
+        record = self.random.choice(live) if live and self.chance(.9) else None
+        if record is None:
+            return Patch(self.chunk_id(sequence), 4, four_bytes(self.random.randrange(300)), self.chance(.6))
+        last = record.fragments[-1]
+        return Patch(record.chunk_id, last.offset + self.pick(0, 0, 0, 1, -1, 2), four_bytes(self.random.randrange(300)), self.chance(.6))
+
+
+def buffers_of(seed):
+    """The buffers of a seed, by their names: of a made history, and of a scenario."""
+    yield f'{seed}_0', HistoryMaker(seed).buffer
+    world = played(seed)
+    for number, buffer in enumerate(world.service.buffers if world else [], 1):
+        yield f'{seed}_{number}', buffer
 
 
 def statements(first, wanted, counts):
@@ -210,14 +318,13 @@ def statements(first, wanted, counts):
     recorder.record_all()
     made, seed = 0, first
     while made < wanted or (seed < first + MOST_SEEDS and lacking(counts)):
-        world, _ = played(seed)
-        for number, buffer in enumerate(world.service.buffers, 1):
+        for name, buffer in buffers_of(seed):
             notes = recorder.NOTES.get(id(buffer))
-            if notes is None or not notes.events or len(notes.events) > 150:
+            if notes is None or not notes.events or len(notes.events) > MOST_EVENTS:
                 continue
             if made >= wanted and not notes.branches & set(lacking(counts)):
                 continue
-            statement = statement_of(f'{seed}_{number}', buffer, notes, counts)
+            statement = statement_of(name, buffer, notes, counts)
             if statement:
                 made += 1
                 yield statement
@@ -246,17 +353,14 @@ def statement_of(name, buffer, notes, counts):
         counts[answer.split()[1].strip('(')] += 1
     for branch in notes.branches | ({'a commit with patches'} if commits else set()):
         counts[branch] += 1
-    made = buffer.counts
-    numbers = [made.placed, made.rewritten, made.overwritten, made.discarded, made.unpatched, made.padding,
-               buffer.write_place, int(buffer.refuses)]
-    states = [[one.number, one.base, one.delivered, one.counts['dropped'],
-               one.counts['overwritten'] + one.counts['discarded'], one.counts['cut'],
-               one.position, one.passed, int(one.missing), int(one.closed)]
+    numbers = [buffer.placed, buffer.rewritten, buffer.overwritten, buffer.discarded, buffer.unpatched, buffer.padding, buffer.next,
+               int(buffer.shut)]
+    states = [[one.number, one.least_missing, one.delivered, one.dropped, one.lost, one.cut, *one.cursor, int(one.missing), int(one.closed)]
               for one in buffer.sequences.values()]
     for state in states:
         for word, value in zip(('delivered', 'dropped', 'lost', 'cut'), state[2:]):
             counts[word] += value
-    places = [[one.sequence.number, one.position, one.place] for one in buffer.at_place.values()]
+    places = [[one.sequence.number, one.chunk_id, one.at] for one in buffer.live]
     fixed = [notes.fixed.get(one.number, []) for one in buffer.sequences.values()]
     fresh = listed(f'fresh {one.number} {one.record_size}' for one in buffer.sequences.values())
     policy = {'ring': 'Ring', 'discard': 'Discard'}[buffer.policy]

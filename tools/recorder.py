@@ -1,8 +1,10 @@
-"""What a run of the model does, noted event by event: outcomes, what each event fixes, where reads end, and which branches
-of the definitions it takes."""
+"""What a run of the second reading does, noted event by event: outcomes, what each event fixes, where reads end, and which
+branches of the definitions it takes."""
 
-from model import reader, service
-from model.buffers import KEPT, DISCARDED, DUPLICATE, TOO_FAR, BadChunk, TraceBuffer, read_fragments
+from model import reading, service
+from model.buffers import BAD_CHUNK, DISCARDED, DUPLICATE, KEPT, REWRITTEN, TOO_FAR, TraceBuffer
+from model.chunks import Unreadable, read_fragments
+from model.reading import CUT, INTO_LOST, MARKED, OPEN, Stop, delivers, row_of
 
 # Branches of the definitions that few histories take.
 BRANCHES = (
@@ -27,199 +29,201 @@ class Notes:
 
     def note(self, sequence, kind, *rest):
         self.events.append((kind, sequence.number, *rest))
-        self.cursors.append((sequence.position, sequence.passed))
+        self.cursors.append(sequence.cursor)
         if self is not WHOLE:
             WHOLE.note(sequence, kind, *rest)
 
-    def fix(self, number, position, passed, outcome):
-        self.fixed.setdefault(number, []).append((position, passed, outcome))
+    def fix(self, number, place, outcome):
+        self.fixed.setdefault(number, []).append((*place, outcome))
 
 
 NOTES = {}
 WHOLE = Notes()         # the events of all buffers in their order
 
 
+def forget():
+    """What was noted of other runs."""
+    NOTES.clear()
+    WHOLE.__init__()
+
+
 def notes_of(buffer):
     return NOTES.setdefault(id(buffer), Notes())
 
 
-class Chain(reader.Chain):
-    """A chain of the model, with its start and what the walk alone says of it."""
+def unread_starts(sequence, chunk_id, count, continues):
+    """The places of the packets that begin in fragments which the cursor hasn't passed."""
+    first = count - sequence.unread(chunk_id, count)
+    return [(chunk_id, i) for i in range(first, count) if not (continues and i == 0)]
 
-    made = []
 
-    def __init__(self, buffer, sequence, packets_checked):
-        self.start = (sequence.position, sequence.passed)
-        super().__init__(buffer, sequence, packets_checked)
-        Chain.made.append(self)
-
-    def walk(self):
-        self.walked = super().walk()
-        return self.walked
+def image_of(chunk):
+    return chunk.count, chunk.flags, bytes(chunk.payload)
 
 
 class Buffer(TraceBuffer):
-    """A buffer of the model that notes what becomes of its events."""
+    """A buffer that notes what becomes of its events."""
+
+    def add_sequence(self, number, record_size):
+        super().add_sequence(number, record_size)
+        self.sequences[number].buffer = self
 
     def lose(self, record):
         sequence = record.sequence
-        if record.partial and sequence.closed and sequence.is_unread(record):
+        if record.partial and sequence.closed and self.is_unread(record):
             notes_of(self).branches.add('a final partial record that is lost unread')
         if not (record.partial and not sequence.closed):
-            self.losses.append((record, self.unread_starts_of(sequence, record.position, record.fragments, record.continues())))
+            for place in unread_starts(sequence, record.chunk_id, len(record.fragments), record.chunk.continues()):
+                notes_of(self).fix(sequence.number, place, 'Absent Lost')
         super().lose(record)
 
-    @staticmethod
-    def unread_starts_of(sequence, position, fragments, continues):
-        """The places of the packets that begin in fragments which the cursor hasn't passed."""
-        passed = sequence.passed_of(position)
-        if passed is None:
-            return []
-        return [(position, i) for i in range(passed, len(fragments)) if not (continues and i == 0)]
-
-    def place_new(self, sequence, position, *rest):
-        place, padding = self.next_place(sequence.record_size)
-        if padding and self.met_in(self.write_place, self.size):
+    def make_room(self, size):
+        _, padding = self.place_for(size)
+        if any(max(self.next, record.at) < min(self.next + padding, record.end()) for record in self.live):
             notes_of(self).branches.add('padding that meets a record')
-        return super().place_new(sequence, position, *rest)
+        return super().make_room(size)
 
-    def note_losses(self, order):
-        """Losses in the order in which the records got their places."""
-        for record, starts in sorted(self.losses, key=lambda loss: order.index(id(loss[0]))):
-            for place in starts:
-                notes_of(self).fix(record.sequence.number, *place, 'Absent Lost')
-
-    def arrive(self, sequence, position, count, flags, payload):
-        notes, self.losses = notes_of(self), []
-        order = [id(record) for record in self.at_place.values()]
-        was, ahead = (sequence.position, sequence.passed), position > sequence.base
-        try:
-            fragments = read_fragments(payload, count)
-            # (read off before the state changes)
-            starts = self.unread_starts_of(sequence, position, fragments, bool(flags & 1))
-            outcome = super().arrive(sequence, position, count, flags, payload)
-        except BadChunk as bad:
+    def arrive(self, number, chunk):
+        notes, sequence, image = notes_of(self), self.sequences[number], image_of(chunk)
+        was, is_ahead = sequence.cursor, chunk.chunk_id > sequence.least_missing
+        starts = unread_starts(sequence, chunk.chunk_id, chunk.count, chunk.continues())
+        outcome = super().arrive(number, chunk)
+        if outcome == BAD_CHUNK:
             notes.branches.add('a chunk that is unreadable')
-            notes.note(sequence, 'arrive', position, (count, flags, bytes(payload)), str(bad))
-            raise
-        if outcome == KEPT:
-            self.note_losses(order)
+            outcome = f'{BAD_CHUNK} {first_unreadable(chunk)}'
+        elif outcome == DUPLICATE:
+            notes.branches.add('a double')
+        elif outcome == TOO_FAR:
+            notes.branches.add('an id that is too far')
+        elif is_ahead:
+            notes.branches.add('an id out of order')
         if outcome == DISCARDED:
             for place in starts:
-                notes.fix(sequence.number, *place, 'Absent Lost')
-        if outcome == DUPLICATE:
-            notes.branches.add('a double')
-        if outcome == TOO_FAR:
-            notes.branches.add('an id that is too far')
-        elif ahead:
-            notes.branches.add('an id out of order')
-        if sequence.position != was[0]:
-            notes.branches.add('an arrival of which just all was passed' if was[1] == count else 'an arrival of which more was passed')
-        notes.note(sequence, 'arrive', position, (count, flags, bytes(payload)), outcome)
+                notes.fix(number, place, 'Absent Lost')
+        if sequence.cursor[0] != was[0]:
+            notes.branches.add(f'an arrival of which {"just all" if was[1] == chunk.count else "more"} was passed')
+        notes.note(sequence, 'arrive', chunk.chunk_id, image, outcome)
         return outcome
 
-    def arrive_partial(self, sequence, position, count, flags, payload):
-        notes, self.losses = notes_of(self), []
-        order = [id(record) for record in self.at_place.values()]
-        held, shut = sequence.live.get(position), self.refuses
-        outcome = super().arrive_partial(sequence, position, count, flags, payload)
-        if outcome == KEPT:
-            self.note_losses(order)
-        if outcome == DUPLICATE and not sequence.has_arrived(position) and not (held and len(held.fragments) >= count):
+    def arrive_partial(self, number, chunk):
+        notes, sequence, image = notes_of(self), self.sequences[number], image_of(chunk)
+        held, was_shut = sequence.live.get(chunk.chunk_id), self.shut
+        outcome = super().arrive_partial(number, chunk)
+        if outcome == DUPLICATE and not sequence.has_arrived(chunk.chunk_id) and not (held and len(held.fragments) >= chunk.count):
             notes.branches.add('a partial record that the cursor alone makes a double')
-        if outcome == DISCARDED and not shut:
+        if outcome == DISCARDED and not was_shut:
             notes.branches.add('a partial record that shuts a discard buffer')
-        if held is not None and outcome == 'rewritten':
+        if outcome == REWRITTEN:
             notes.branches.add('a partial record that grows')
-        notes.note(sequence, 'partial', position, (count, flags, bytes(payload)), outcome)
+        notes.note(sequence, 'partial', chunk.chunk_id, image, outcome)
         return outcome
 
-    def patch(self, sequence, patch):
-        notes = notes_of(self)
-        position = sequence.position_of(patch.chunk_id)
-        found = sequence.live.get(position)
-        awaits = found is not None and not found.partial and found.awaits
-        done = super().patch(sequence, patch)
-        answer = 'Applied' if done else 'BadOffset' if awaits else 'NoChunk'
-        notes.branches |= {{'BadOffset': 'a patch outside the last fragment', 'NoChunk': 'a patch for a chunk that is gone'}[answer]} if not done else set()
-        notes.note(sequence, 'patch', position, patch, answer)
-        return done
+    def patch(self, number, patch):
+        notes, sequence = notes_of(self), self.sequences[number]
+        found = sequence.live.get(patch.chunk_id)
+        awaits = found is not None and found.awaits
+        is_applied = super().patch(number, patch)
+        answer = 'Applied' if is_applied else 'BadOffset' if awaits else 'NoChunk'
+        if not is_applied:
+            notes.branches.add('a patch outside the last fragment' if awaits else 'a patch for a chunk that is gone')
+        notes.note(sequence, 'patch', patch.chunk_id, patch, answer)
+        return is_applied
 
-    def close_sequence(self, sequence):
-        super().close_sequence(sequence)
-        notes_of(self).note(sequence, 'close')
+    def close_sequence(self, number):
+        super().close_sequence(number)
+        notes_of(self).note(self.sequences[number], 'close')
+
+
+def first_unreadable(chunk):
+    try:
+        read_fragments(chunk.payload, chunk.count)
+    except Unreadable as fault:
+        return fault.args[0]
+    raise AssertionError('a chunk that can be read')
 
 
 def stop_place(sequence):
     """Where the row of a sequence stops, from its cursor on, and why."""
-    position, passed = sequence.position, sequence.passed
-    while not reader.at_stop(sequence, position, passed):
-        found = sequence.live.get(position)
-        if found is not None and passed < len(found.fragments):
-            passed += 1
-            if passed < len(found.fragments) or (found.partial and not sequence.closed):
-                continue
-        position, passed = position + 1, 0
-    found = sequence.live.get(position)
-    why = 'End' if sequence.closed else 'Missing' if found is None else 'Partial' if found.partial else 'Unpatched'
-    return position, passed, why
+    place = sequence.cursor
+    for one in row_of(sequence, place):
+        if isinstance(one, Stop):
+            break
+        place = one.behind
+    if sequence.closed:
+        return max(place, (sequence.end, 0)), 'End'
+    found = sequence.live.get(place[0])
+    return place, 'Missing' if found is None else 'Partial' if found.partial else 'Unpatched'
 
 
-def turn_of(chain):
-    """What a read does at a chain, as an outcome, or None where it counts nothing."""
-    if chain.fate == reader.HEADLESS:
+def outcome_of(chain):
+    """What becomes of a packet whose chain is passed; None where it counts nothing."""
+    if chain.is_headless():
         return None
-    return {reader.DELIVER: 'Delivered', 'dropped': 'Absent Dropped', 'cut': 'Absent Cut'}.get(chain.fate, 'Absent Lost')
+    if delivers(chain):
+        return 'Delivered'
+    return {MARKED: 'Absent Dropped', INTO_LOST: 'Absent Lost'}.get(chain.fate, 'Absent Cut')
 
 
-def read(buffer, sequence, limit, out, packets_checked=True):
-    """A read of the model, with what it passes and where it ends."""
-    notes, before, Chain.made = notes_of(buffer), len(out), []
-    was, part = (sequence.position, sequence.passed), sequence.live.get(sequence.position)
-    delivered = reader.read_sequence(buffer, sequence, limit, out, packets_checked)
-    end, passed_one = None, False
-    for chain in Chain.made:
-        if chain.fate == reader.REACHES or (chain.start == (sequence.position, sequence.passed) and chain is Chain.made[-1]):
-            if chain.fate == reader.DELIVER:
+class Reads:
+    """The chains of the read that is going on, each with the place at which it begins."""
+
+    def __init__(self):
+        self.sequence, self.chains = None, []
+
+    def chain_from(self, first, row):
+        chain = PLAIN_CHAIN(first, row)
+        self.chains.append((self.sequence.cursor, chain))
+        return chain
+
+    def read_sequence(self, sequence, limit):
+        """A read, with what it passes and where it ends."""
+        self.sequence, self.chains = sequence, []
+        notes = notes_of(sequence.buffer)
+        records = PLAIN_READ(sequence, limit)
+        end = None
+        for place, chain in self.chains:
+            if chain.fate == OPEN:
+                continue
+            if place == sequence.cursor:
                 end = 'AtLimit'
-            continue
-        passed_one = True
-        if turn_of(chain):
-            notes.fix(sequence.number, *chain.start, turn_of(chain))
-        notes.branches |= branches_of(chain, buffer)
-    if end is None:
-        position, passed, why = stop_place(sequence)
-        end = f'Stopped (record {{ at = record {{ chunk_id = {position}; passed = {passed} }}; why = {why} }})'
-        word = {'Partial': 'a part', 'Unpatched': 'an open patch', 'End': 'a close'}.get(why)
-        notes.branches |= {f'a read that ends at {word}'} if word else set()
-    else:
-        notes.branches.add('a read that ends at its limit')
-    if (sequence.position, sequence.passed) == (was[0] + 1, 0) and not passed_one and part is not None:
-        # A final part that was read whole, and nothing was passed behind it: the cursor stays. The model goes on to the next
-        # chunk, which nothing but the cursor shows.
-        sequence.position, sequence.passed = was
-    notes.note(sequence, 'read', limit, out[before:], end)
-    return delivered
+                continue
+            if outcome_of(chain):
+                notes.fix(sequence.number, place, outcome_of(chain))
+            notes.branches |= branches_of(sequence, chain)
+        if end is None:
+            end = end_at(notes, *stop_place(sequence))
+        else:
+            notes.branches.add('a read that ends at its limit')
+        notes.note(sequence, 'read', limit, records, end)
+        return records
 
 
-def branches_of(chain, buffer):
-    headless, sequence = chain.fate == reader.HEADLESS, chain.sequence
-    if chain.walked == 'dropped':
-        last = sequence.live.get(chain.position if chain.passed else chain.position - 1)
-        return ({'a headless chain that ends in a drop mark'} if headless else set()) \
-            | ({'a drop mark in a chunk that runs on'} if last and last.runs_on() else set())
-    if chain.walked == buffer.loss:
-        return {'a headless chain that runs into a lost chunk' if headless else 'a chain that runs into a lost chunk'}
-    if chain.walked == 'cut' and not headless:
-        return {'a chain that is cut by its next chunk' if chain.position in sequence.live
-                else 'a chain that runs into a chunk that never came' if chain.position < sequence.end
+def end_at(notes, place, why):
+    """The end of a read at a stop place, as a term."""
+    word = {'Partial': 'a part', 'Unpatched': 'an open patch', 'End': 'a close'}.get(why)
+    notes.branches |= {f'a read that ends at {word}'} if word else set()
+    return f'Stopped (record {{ at = record {{ chunk_id = {place[0]}; passed = {place[1]} }}; why = {why} }})'
+
+
+def branches_of(sequence, chain):
+    is_headless = chain.is_headless()
+    if chain.fate == MARKED:
+        return ({'a headless chain that ends in a drop mark'} if is_headless else set()) \
+            | ({'a drop mark in a chunk that runs on'} if chain.pieces[-1].runs_on else set())
+    if chain.fate == INTO_LOST:
+        return {'a headless chain that runs into a lost chunk' if is_headless else 'a chain that runs into a lost chunk'}
+    if chain.fate == CUT and not is_headless:
+        return {'a chain that is cut by its next chunk' if chain.behind[0] in sequence.live
+                else 'a chain that runs into a chunk that never came' if chain.behind[0] < sequence.end
                 else 'a chain that its sequence\'s end cuts'}
-    return {'a chain that awaits a patch when its sequence is closed'} if chain.awaits and not headless else set()
+    return {'a chain that awaits a patch when its sequence is closed'} if chain.awaits() and not is_headless else set()
+
+
+PLAIN_CHAIN, PLAIN_READ = reading.chain_from, reading.read_sequence
 
 
 def record_all():
-    """Lets the model note what it does; the check of packets is no part of the definitions."""
-    reader.check_packet = lambda body: True
-    reader.Chain = Chain
+    """Has the second reading note what it does."""
+    reads = Reads()
+    reading.chain_from, reading.read_sequence = reads.chain_from, reads.read_sequence
     service.TraceBuffer = Buffer
-    service.read_sequence = read

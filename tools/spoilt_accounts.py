@@ -8,8 +8,8 @@ import account_proofs
 import worlds
 from accounts import account_specs, event_term, look_term, noted_term, outcome_term
 from antt_text import Statement, listed, octets, record
-from model.buffers import read_fragments
-from model.wire import FRONT_MARK, record as trace_record
+from model.chunks import read_fragments
+from model.wire import MARK, record as trace_record
 
 # A spoilt list: what stands in place of so many elements from a place on, and the whole list then. `sequence` is the one to look at.
 Splice = namedtuple('Splice', 'sequence at count new whole')
@@ -39,7 +39,7 @@ def with_body(one, sequence, change):
 
 def unmarked(one, sequence):
     body, _ = body_of(one, sequence)
-    return trace_record(body[len(FRONT_MARK):] if body.startswith(FRONT_MARK) else body, sequence, False)
+    return trace_record(body[len(MARK):] if body.startswith(MARK) else body, sequence, False)
 
 
 # The trace.
@@ -55,7 +55,7 @@ def single_spoils(account):
         yield 'an invented packet', spliced(sequence, records, at, 0, [(sequence, trace_record(INVENTED, sequence, False))])
         yield 'a mark too many', spliced(sequence, records, at, 1, [(sequence, trace_record(body, sequence, True))])
         yield 'a mark missing', spliced(sequence, records, at, 1, [(sequence, unmarked(one, sequence))])
-        if body and body != FRONT_MARK:
+        if body and body != MARK:
             torn = with_body(one, sequence, lambda body: body[:-1] + bytes([body[-1] ^ 1]))
             yield 'another byte', spliced(sequence, records, at, 1, [(sequence, torn)])
             yield 'a packet cut short', spliced(sequence, records, at, 1, [(sequence, with_body(one, sequence, lambda body: body[:-1]))])
@@ -85,7 +85,7 @@ def nearest_places(emitted, records, sequence):
     places, following = [], 0
     for k, one in enumerate(records):
         ways = [(at, front, behind) for at in range(len(emitted)) for front in (False, True) for behind in (False, True)
-                if trace_record((FRONT_MARK if front else b'') + emitted[at], sequence, behind) == one]
+                if trace_record((MARK if front else b'') + emitted[at], sequence, behind) == one]
         best = min(ways, default=(min(following, max(len(emitted) - 1, 0)), False, False), key=lambda way: (
             way[0] < following, (way[1] or way[2]) != (k == 0 or way[0] != following), way))
         places.append(best)

@@ -4,12 +4,12 @@ records of its sequence, which tell of the packets that it emitted."""
 import histories
 import recorder
 import writer_scripts
-from antt_text import Statement, flag, listed, nested, octets, record
-from model import early, play, writers
-from model.fields import BEGIN, END, NUMBER
-from model.wire import FRONT_MARK, record as trace_record
-
-STAGE = 13      # before images that no writer made
+from antt_text import Statement, flag, listed, octets, record
+from model import service
+from model.fields import length_of
+from model.geometry import record_size
+from model.report import counts_of
+from model.wire import MARK, record as trace_record
 
 WORDS = '''-- What a writer of a whole scenario is compared in.
 use Rattle.std.specs.Prelude.{◌≡◌, ℕ, Bool, true, false, not, ◌&&◌, IsTrue, List, [], ◌∷◌, map}
@@ -72,62 +72,6 @@ PROOF_HEAD = writer_scripts.PROOF_HEAD + 'use Rattle.trace_model.specs.Record.{c
 UNFOLDING = writer_scripts.UNFOLDING[:-1] + ' content_of record_of\n'
 
 
-class Recorded(writers.Writer):
-    """A writer of the model that notes its calls."""
-
-    def __init__(self, *setup):
-        super().__init__(*setup)
-        self.calls = []
-        self.images = []
-        self.size = self.payload_size
-
-    def begin(self):
-        super().begin()
-        self.calls.append(('Begun', not self.dropping))
-
-    def fields(self, nodes):
-        for node in nodes:
-            if node[0] == BEGIN:
-                self.begin_nested(node[1])
-            elif node[0] == END:
-                self.end_nested()
-            else:
-                was = self.dropping
-                self.calls.append(('Number', node[1], node[2]) if node[0] == NUMBER
-                                  else ('Bytes', node[1], bytes(node[2]), node[3]))
-                super().fields([node])
-                self.note_drop(was)
-
-    def begin_nested(self, field):
-        was = self.dropping
-        self.calls.append(('Nested', field))
-        super().begin_nested(field)
-        self.note_drop(was)
-
-    def end_nested(self):
-        self.calls.append(('Ended',))
-        super().end_nested()
-
-    def finish(self):
-        self.calls.append(('Finished',))
-        super().finish()
-
-    def flush(self):
-        if not self.in_packet:
-            self.calls.append(('Flushed',))
-        super().flush()
-
-    def note_drop(self, was):
-        if self.dropping and not was:
-            self.calls.append(('GivenUp',))
-
-    def pages(self):
-        return writer_scripts.Run.pages(self)
-
-
-Recorded.writer = property(lambda self: self)
-
-
 def told_places(emitted, records, sequence):
     """The places of the records among the emitted packets, with their marks in front and behind; None where there are none."""
     def found(k, following):
@@ -136,7 +80,7 @@ def told_places(emitted, records, sequence):
         for at in range(following, len(emitted)):
             for front in (False, True):
                 for behind in (False, True):
-                    body = (FRONT_MARK if front else b'') + emitted[at]
+                    body = (MARK if front else b'') + emitted[at]
                     if (front or behind) == (k == 0 or at != following) \
                             and trace_record(body, sequence, behind) == records[k]:
                         rest = found(k + 1, at + 1)
@@ -157,18 +101,50 @@ def told_term(places):
     return proof
 
 
+def most_chunks(payload, lengths):
+    """At most so many chunks hold packets of these lengths: a full one has all its payload but seven bytes of them at least."""
+    return sum(1 + length // (payload - 7) for length in lengths)
+
+
+def is_enough(world):
+    """Chunks and bytes are enough, so that no packet can be absent."""
+    scenario, loads = world.scenario, loads_of(world)
+    for number, producer in enumerate(scenario.producers, 1):
+        own = [(spec, lengths) for spec, lengths in loads if spec.producer == number]
+        chunks = sum(most_chunks(producer.payload(), lengths) for _, lengths in own)
+        if any(spec.policy != 'stall' for spec, _ in own) and chunks > producer.pages * producer.chunks:
+            return False
+    for number, buffer in enumerate(scenario.buffers, 1):
+        payloads = [(scenario.producers[spec.producer - 1].payload(), lengths) for spec, lengths in loads if spec.buffer == number]
+        if sum(most_chunks(payload, lengths) * record_size(payload) for payload, lengths in payloads) > buffer.size():
+            return False
+    return True
+
+
+def loads_of(world):
+    """Of each writer its specification, and the lengths of the packets that it finishes."""
+    for number, spec in enumerate(world.scenario.writers, 1):
+        lengths, length = [], 0
+        for line in world.scenario.lines:
+            if line.kind not in ('p', 'b', 'a', 'n', 'e') or line.of != number:
+                continue
+            length = (0 if line.kind in ('p', 'b') else length) + sum(map(length_of, line.parts))
+            lengths += [length] if line.kind in ('p', 'e') else []
+        yield spec, lengths
+
+
 def enough_of(world):
     """The sizes of buffers, the chunks of producers and the packets of writers, as terms."""
     scenario = world.scenario
-    buffers = listed(str(kb * 1024) for kb, _ in scenario.buffers)
-    producers = listed(record(chunks=pages * geometry.chunks, payload=geometry.payload_size)
-                       for pages, geometry in scenario.producers)
-    policies = {'drop': 'Drops', 'stall': 'Stalls'}
-    loads = listed(
-        record(spec=record(producer=spec.producer, buffer=spec.buffer, policy=policies[spec.policy]),
-               emitted=listed(f'(replicate {length} 0)' for length in lengths))
-        for spec, lengths in zip(scenario.writers, early.packet_lengths(scenario)))
+    buffers = listed(str(buffer.size()) for buffer in scenario.buffers)
+    producers = listed(record(chunks=producer.pages * producer.chunks, payload=producer.payload()) for producer in scenario.producers)
+    loads = listed(record(spec=spec_term(spec), emitted=listed(f'(replicate {length} 0)' for length in lengths))
+                   for spec, lengths in loads_of(world))
     return f'{buffers} {producers} {loads}'
+
+
+def spec_term(spec):
+    return record(producer=spec.producer, buffer=spec.buffer, policy={'drop': 'Drops', 'stall': 'Stalls'}[spec.policy])
 
 
 def statement_of(name, writer, world, reported, counts):
@@ -193,7 +169,7 @@ def statement_of(name, writer, world, reported, counts):
     fresh = listed(f'fresh {one.number} {one.record_size}' for one in buffer.sequences.values())
     policy = {'ring': 'Ring', 'discard': 'Discard'}[buffer.policy]
 
-    enough = early.is_enough(world.scenario)
+    enough = is_enough(world)
     counts['enough'] += enough
 
     def specs(numbers):
@@ -218,20 +194,24 @@ def statement_of(name, writer, world, reported, counts):
                      uses=[pages_name])
 
 
+def reported(world, writer):
+    """The counts of the report's line of a writer."""
+    return dict(begun=writer.begun, **counts_of(writer, world.service.buffer_of(writer)))
+
+
 def statements(first, wanted, counts):
     recorder.record_all()
-    play.Writer = Recorded
+    service.Writer = writer_scripts.Recorded
     made, seed = 0, first
     while made < wanted:
-        world, whole = histories.played(seed, raw=False, stage=STAGE)
+        world = histories.played(seed)
         seed += 1
-        if not whole:
+        if not world or not world.is_whole:
             continue
-        done = world.done()
-        for writer, reported in zip(world.writers, done.sequences):
+        for writer in world.service.writers:
             if made == wanted:
                 break
-            statement = statement_of(f'{seed}_{writer.number}', writer, world, dict(reported), counts)
+            statement = statement_of(f'{seed}_{writer.number}', writer, world, reported(world, writer), counts)
             if statement:
                 made += 1
                 yield statement

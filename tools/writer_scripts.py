@@ -2,11 +2,14 @@
 spoilt in one place are none."""
 
 import random
-from types import SimpleNamespace
 
 from antt_text import Statement, flag, listed, nested, octets, record
 from model import writers
-from model.wire import DROP_MARK, FRONT_MARK, OPEN_LENGTH, head_bytes, head_nested, head_number, put_redundant
+from model.chunks import Claims
+from model.fields import Begin, End, Number, Text
+from model.geometry import CONTINUES
+from model.scenario import Writer as WriterSpec
+from model.wire import CONTENT, DROP_MARK, HOLE, MARK, four_bytes, number_field, tag, text_head
 
 SEQUENCE = 2
 
@@ -60,7 +63,7 @@ def flat_text(four, levels):
 
 
 def open_places(levels):
-    return [len(flat_text(OPEN_LENGTH, levels[i:])) for i in range(1, len(levels))]
+    return [len(flat_text(HOLE, levels[i:])) for i in range(1, len(levels))]
 
 
 class Packet:
@@ -74,27 +77,27 @@ class Packet:
         return not self.kept or self.given_up is not None
 
     def body(self):
-        return flat_text(OPEN_LENGTH, self.levels)
+        return flat_text(HOLE, self.levels)
 
 
 def packets_of(calls):
     packets = []
     for kind, *rest in calls:
         if kind == 'Begun':
-            front = FRONT_MARK if rest[0] and packets and packets[0].lost() else b''
+            front = MARK if rest[0] and packets and packets[0].lost() else b''
             packets.insert(0, Packet(rest[0], front))
             continue
         newest = packets[0] if packets else None
         if kind == 'Number':
-            newest.levels[0] += head_number(*rest)
+            newest.levels[0] += number_field(*rest)
         elif kind == 'Bytes':
-            newest.levels[0] += head_bytes(rest[0], len(rest[1]) * rest[2]) + rest[1] * rest[2]
+            newest.levels[0] += text_head(rest[0], len(rest[1]) * rest[2]) + rest[1] * rest[2]
         elif kind == 'Nested':
-            newest.levels[0] += head_nested(rest[0])
+            newest.levels[0] += tag(rest[0], CONTENT)
             newest.levels.insert(0, b'')
         elif kind == 'Ended':
             level = newest.levels.pop(0)
-            newest.levels[0] += put_redundant(len(level)) + level
+            newest.levels[0] += four_bytes(len(level)) + level
         elif kind == 'GivenUp':
             newest.given_up = list(newest.levels)
         elif kind == 'Finished':
@@ -153,57 +156,98 @@ def chains_of(pages):
 
 # Playing.
 
+class Recorded(writers.Writer):
+    """A writer that notes its calls, and the images of the chunks that it completes."""
+
+    def __init__(self, *setup):
+        super().__init__(*setup)
+        self.calls = []
+        self.images = []
+        self.is_beginning = False
+
+    def begin(self):
+        self.is_beginning = True
+        super().begin()
+        self.is_beginning = False
+        self.calls.append(('Begun', not self.thrown_away))
+
+    def write(self, part):
+        """A call on the begun packet, which is noted before a stall, and its giving up behind it."""
+        was = self.thrown_away
+        self.calls.append(call_of(part))
+        super().write(part)
+        if self.thrown_away and not was:
+            self.calls.append(('GivenUp',))
+
+    def finish(self):
+        super().finish()
+        self.calls.append(('Finished',))
+
+    def flush(self):
+        """(The chunk that a begin completes is no call of its own.)"""
+        if not self.is_beginning:
+            self.calls.append(('Flushed',))
+        super().flush()
+
+    def complete_chunk(self, runs_on):
+        super().complete_chunk(runs_on)
+        _, chunk = self.complete[-1]
+        self.images.append(Page(chunk.count, chunk.flags, chunk.payload, [patch_of(patch) for patch in chunk.patches]))
+
+    def pages(self):
+        """The completed images, and the held chunk as the last one."""
+        held = self.held
+        if held is None or not held.count:
+            return list(self.images)
+        payload = bytearray(held.payload)
+        if self.in_packet and not self.thrown_away:
+            payload[held.fragment_at:held.fragment_at + 4] = four_bytes(held.size_of_fragment())
+        return [*self.images, Page(held.count, CONTINUES if held.continues else 0, payload, [patch_of(patch) for patch in self.patches])]
+
+
+def call_of(part):
+    if isinstance(part, Begin):
+        return 'Nested', part.field
+    if isinstance(part, End):
+        return ('Ended',)
+    if isinstance(part, Number):
+        return 'Number', part.field, part.value
+    return 'Bytes', part.field, part.text, part.times
+
+
+def patch_of(patch):
+    return patch.chunk_id, patch.offset, patch.bytes, patch.last
+
+
 class Run:
-    """A writer of the model on a producer of a few chunks, with a service that takes chunks now and then."""
+    """A writer on a producer of a few chunks, with a service that takes chunks now and then."""
 
     def __init__(self, size, chunks, policy, seed):
         self.random = random.Random(seed)
         self.size = size
-        self.chunks = writers.ProducerChunks(1, SimpleNamespace(payload_size=size, chunks=chunks))
-        self.writer = writers.Writer(1, SimpleNamespace(policy=policy, first_id=0, tries=0), self.chunks, self.help)
-        self.writer.images = []
-        self.calls = []
+        self.claims = Claims(chunks)
+        self.writer = Recorded(1, WriterSpec(1, 1, policy, None), size, self.claims, self.help)
         self.depth = 0
         # (some services take seldom, and some writers flush often: then packets are dropped at their begin)
         self.taking, self.flushing = self.random.choice([(.3, .15), (.3, .15), (.02, .5)])
+
+    @property
+    def calls(self):
+        return self.writer.calls
 
     def help(self):
         return self.random.random() >= .1 and self.take()
 
     def take(self):
-        if not self.writer.ready:
+        if not self.writer.complete:
             return False
-        slot, _ = self.writer.ready.popleft()
-        self.chunks.release(slot)
+        slot, _ = self.writer.complete.popleft()
+        self.claims.release(slot)
         return True
 
     def begin(self):
         self.writer.begin()
         self.depth = 0
-        self.calls.append(('Begun', not self.writer.dropping))
-
-    def flush(self):
-        self.writer.flush()
-        self.calls.append(('Flushed',))
-
-    def call(self, kind, *rest):
-        """A call on the begun packet, which is noted before a stall, and its giving up behind it."""
-        was = self.writer.dropping
-        self.calls.append((kind, *rest))
-        if kind == 'Number':
-            self.writer.fields([(writers.NUMBER, *rest)])
-        elif kind == 'Bytes':
-            self.writer.fields([(99, *rest)])
-        elif kind == 'Nested':
-            self.depth += 1
-            self.writer.begin_nested(*rest)
-        elif kind == 'Ended':
-            self.depth -= 1
-            self.writer.end_nested()
-        else:
-            self.writer.finish()
-        if self.writer.dropping and not was:
-            self.calls.append(('GivenUp',))
 
     def play(self, steps):
         roll = self.random.random
@@ -212,18 +256,20 @@ class Run:
             for _ in range(steps):
                 x = roll()
                 if not self.writer.in_packet:
-                    self.flush() if x < self.flushing else self.begin()
+                    self.writer.flush() if x < self.flushing else self.begin()
                 elif x < .25:
-                    self.call('Number', pick([1, 2, 900]), pick([7, 300, 2 ** 40]))
+                    self.writer.write(Number(pick([1, 2, 900]), pick([7, 300, 2 ** 40])))
                 elif x < .45:
                     text = bytes(self.random.randrange(256) for _ in range(pick([0, 1, 2, 3])))
-                    self.call('Bytes', pick([1, 900]), text, pick([0, 1, 2, self.size // 2]))
+                    self.writer.write(Text(pick([1, 900]), text, pick([0, 1, 2, self.size // 2])))
                 elif x < .65 and self.depth < 5:
-                    self.call('Nested', pick([1, 900]))
+                    self.depth += 1
+                    self.writer.write(Begin(pick([1, 900])))
                 elif self.depth:
-                    self.call('Ended')
+                    self.depth -= 1
+                    self.writer.write(End())
                 elif x < .9:
-                    self.call('Finished')
+                    self.writer.finish()
                 if roll() < self.taking:
                     self.take()
                     self.take()
@@ -231,22 +277,7 @@ class Run:
             pass
 
     def pages(self):
-        """The completed images, and the held chunk as the last one."""
-        pages = [Page(image.count, image.flags, image.payload,
-                      [(patch.chunk_id, patch.offset, patch.data, patch.last) for patch in image.patches])
-                 for image in self.writer.images]
-        held = self.writer.held
-        if held is not None and held.count:
-            payload = bytearray(held.payload)
-            if self.writer.in_packet and not self.writer.dropping:
-                payload[held.fragment_at:held.fragment_at + 4] = put_redundant(held.at - held.fragment_at - 4)
-            open_chunks = {hole.position for hole in self.writer.holes}
-            unsent = self.writer.unsent
-            patches = [(position, offset, put_redundant(value), position not in open_chunks
-                        and not any(other[0] == position for other in unsent[i + 1:]))
-                       for i, (position, offset, value) in enumerate(unsent)]
-            pages.append(Page(held.count, held.flags, payload, patches))
-        return pages
+        return self.writer.pages()
 
 
 # Statements.
@@ -263,7 +294,7 @@ def call_term(call):
 def bytes_proof(packet, bytes_written):
     """That the bytes of a chain are those of its packet."""
     if packet.given_up is not None:
-        whole = flat_text(put_redundant(0), packet.given_up)
+        whole = flat_text(four_bytes(0), packet.given_up)
         same = 0
         while same < min(len(bytes_written), len(whole)) and bytes_written[same] == whole[same]:
             same += 1
@@ -396,7 +427,7 @@ def byte_spoils(pages):
                 yield 'writes another byte', with_page(pages, at, payload=with_byte(page.payload, place + 4))
                 # (the last packet may end anywhere behind what was written of it)
                 if last and at + 1 < len(pages):
-                    shorter = put_redundant(len(fragment) - 1)
+                    shorter = four_bytes(len(fragment) - 1)
                     yield 'cuts the last byte of a fragment off', with_page(
                         pages, at, payload=page.payload[:place] + bytes(shorter) + page.payload[place + 4:])
             place += 4 + len(fragment)

@@ -34,17 +34,22 @@ def is_of_service(line: Line) -> bool:
     return line.kind in ('c', 's', 'x', 'r', 'q')
 
 
+def play_lines(service: Service, lines: list[Line], records: list[bytes]) -> None:
+    """Plays lines, and adds the records that they write."""
+    for line in lines:
+        if is_of_service(line):
+            records += play_of_service(service, line)
+            continue
+        writer = service.writers[line.of - 1]
+        play_of_writer(writer, line)
+        if line.kind == 'e':
+            service.answer(writer)
+
+
 def play(scenario: Scenario) -> Answer:
     service, records = Service(scenario), []
     try:
-        for line in scenario.lines:
-            if is_of_service(line):
-                records += play_of_service(service, line)
-                continue
-            writer = service.writers[line.of - 1]
-            play_of_writer(writer, line)
-            if line.kind == 'e':
-                service.answer(writer)
+        play_lines(service, scenario.lines, records)
     except Stalled as at:
         return stalled(at.writer, b''.join(records))
     records += service.finish()
