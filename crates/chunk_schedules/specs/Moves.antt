@@ -1,6 +1,7 @@
 -- The atomic steps that writers and the service make on a table of chunks, as moves of its world. Each is made by one of them and changes
 -- that seat's view and one chunk at most. A step that changes no view, as when a page word or a payload word is loaded, is no move.
-use Rattle.std.specs.Prelude.{◌≡◌, ℕ, ◌+◌, ◌*◌, ◌^◌, ◌<◌, ◌≤◌, true, false, Option, Some, None, List, length, slice_index_or}
+use Rattle.std.specs.Prelude.{◌≡◌, ℕ, ◌+◌, ◌*◌, ◌^◌, ◌<◌, ◌≤◌, true, false, Option, Some, None, List, length, take, slice_index_or}
+use Rattle.trace_base.specs.declared.limits.TheConstants.{MAX_CHUNKS_PER_PAGE}
 use Rattle.page_geometry.specs.declared.chunk_state.ChunkState.{ChunkState}
 use Rattle.page_geometry.specs.declared.chunk_state.ChunkState.TheVariants.{BeingWritten, Complete}
 use Rattle.page_geometry.specs.Header.{packed}
@@ -12,8 +13,9 @@ use Rattle.chunk_plain.specs.Views.{At, Head, no_head, Draft, fresh, Content, Co
 use Rattle.chunk_plain.specs.World.{World, Status, Unclaimed, Claimed, Stamped, Writing, Ready, Reading, status, writer}
 use Rattle.chunk_plain.specs.Steps.{claims, stamps, begins, with_head, with_word, completes, notes_call, looks_at, takes_in, learns, lets_go, notes, notes_commit, drafted, moved, served, with_writer_view, serviced}
 use Rattle.chunk_plain.specs.Letters.{last_reply, last_flush, knows_request, answers_with, requests, hears_answer}
-use Rattle.chunk_plain.specs.Owned.{times}
+use Rattle.chunk_plain.specs.Owned.{times, held_count}
 use Rattle.chunk_plain.specs.Drafts.{MayFollow, IsDraft, IsFound, IsThere, IsHolding, head_of, draft_at, ends_by}
+use Rattle.chunk_plain.specs.Histories.{completed_images}
 use Rattle.chunk_plain.specs.Plain.{read_as}
 
 -- A writer is named by its place, from 0. The page words and header words that a step found are kept in views. A header word is what the
@@ -131,9 +133,9 @@ SaysUse header (Ready place id content) = header ≡ header_of place id (head_of
 SaysUse header (Reading place id content) = header ≡ header_of place id (head_of content)
 SaysUse header _ = Unit {0}
 
--- some chunk of the page has this state in the page word
+-- a chunk of the page has this state in the page word, at one of the places that a page has for chunks
 abbrev pub SaysState : (word : ℕ) → ChunkState → Type 0
-SaysState word state = (at : ℕ) × HasState word at state
+SaysState word state = (place : ℕ) × (place < MAX_CHUNKS_PER_PAGE) × HasState word place state
 
 -- what was found of a chunk is what its header word says; the page word has a chunk that is being written; and the id isn't taken
 pub record FindsWritten (world : World) (word header : ℕ) (one : Found) : Type 0 where
@@ -170,11 +172,13 @@ pub record MayHear (world : World) (place number : ℕ) : Type 0 where
   pub rises : (writer world place).letters.known ≤ number
   pub made : number ≤ asked_in world.service.letters
 
--- the writer knows of the request, hasn't answered it or a later one, and began as many chunks
+-- The writer knows of the request and hasn't answered it or a later one. It has completed as many chunks, and they are the first ones that it
+-- began: none of these is held.
 pub record MayAnswer (view : WriterView) (flush chunks : ℕ) : Type 0 where
   pub known : flush ≡ view.letters.known
   pub newer : last_flush view.letters.answers < flush
-  pub begun : chunks ≤ length view.begun
+  pub completed : chunks ≡ length (completed_images view.begun)
+  pub none_held : held_count (take chunks view.begun) ≡ 0
   pub small : chunks < 2 ^ 32
 
 -- it is the last answer of the writer

@@ -1,5 +1,5 @@
 -- The steps of flush requests and their answers keep the rule, and tell what they do.
-use Rattle.std.proofs.Common.{◌≡◌, ℕ, ◌+◌, ◌-◌, ◌*◌, ◌/◌, ◌%◌, ◌<◌, ◌≤◌, List, [], ◌∷◌, ◌++◌, length, set, get_or, subst, sym, refl, ap, ◌∙◌, arith, ⊎_elim, length-set}
+use Rattle.std.proofs.Common.{◌≡◌, ℕ, ◌+◌, ◌-◌, ◌*◌, ◌/◌, ◌%◌, ◌<◌, ◌≤◌, List, [], ◌∷◌, ◌++◌, ◌⊎◌, inl, inr, length, set, get_or, subst, sym, refl, ap, ◌∙◌, arith, ⊎_elim, length-set}
 use Rattle.std.proofs.lemmas.List.{get_or-set_same, get_or-set_other, length-append}
 use Rattle.std.proofs.Math.Seq.{get_or-append_seam}
 use native.Mathlib.Decide.{ℕ_discrete}
@@ -7,10 +7,11 @@ use mathlib.Core.Logic.{dite}
 use Rattle.atomic_table.specs.Table.{Allows, keeps}
 use Rattle.atomic_table.proofs.Lists.{at_longer}
 use Rattle.chunk_plain.specs.Setup.{Setup}
-use Rattle.chunk_plain.specs.Views.{At, Reply, WriterView, Letter, Asked, Heard, asked_in, ServiceView}
+use Rattle.chunk_plain.specs.Views.{At, BegunChunk, Held, Completed, Reply, WriterView, Letter, Asked, Heard, asked_in, ServiceView}
 use Rattle.chunk_plain.specs.World.{World, writer}
 use Rattle.chunk_plain.specs.Steps.{with_writer_view, serviced}
-use Rattle.chunk_plain.specs.Letters.{no_reply, last_reply, last_flush, IsReply, AreAnswers, HasAnswered, knows_request, answers_with, requests, hears_answer}
+use Rattle.chunk_plain.specs.Histories.{completed_images}
+use Rattle.chunk_plain.specs.Letters.{no_reply, last_reply, last_flush, IsReply, AreAnswers, AreLetters, HasAnswered, knows_request, answers_with, requests, hears_answer}
 use Rattle.chunk_plain.specs.Stored.{Stored}
 use Rattle.chunk_plain.proofs.Lists.{at_more, at_inside, at_some, at_get}
 use Rattle.chunk_plain.proofs.KeptWriter.{noted_kept}
@@ -20,7 +21,7 @@ use Rattle.chunk_schedules.proofs.Leading.{led_on}
 use Rattle.chunk_words.specs.Knows.{Watch, Desk, Nothing, Unmade, Writer, Service}
 use Rattle.chunk_words.specs.Places.{front_place, payload_start, request_place, answer_place}
 use Rattle.chunk_words.specs.Rule.{HoldsWords, HoldsMail, answer_word, IsMade, IsManned, IsShared}
-use Rattle.chunk_words.specs.Moves.{LearnsRequest, GivesAnswer, ReadsAnswer, Serves}
+use Rattle.chunk_words.specs.Moves.{LearnsRequest, GivesAnswer, IsLastAnswer, IsNoOlder, ReadsAnswer, Serves}
 use Rattle.chunk_words.proofs.Bodies.{with_hand, with_service_hand, in_before, bodies_stay}
 use Rattle.chunk_words.proofs.Turns.{IsWriterChange, noted_change, serviced_change, writer_turn, service_turn}
 use Rattle.chunk_words.proofs.MailWords.{payload_below, each_behind, mail_loaded, mail_by_view}
@@ -50,13 +51,32 @@ some_answers (one ∷ answers) some = omega arith
 last_given : (answers : List Reply) → 0 < last_flush answers → HasAnswered answers (last_flush answers) (last_reply answers).chunks
 last_given answers some = (length answers - 1, last_reply answers, last_there answers (some_answers answers some), refl, refl)
 
+-- each is the last one, or to an earlier request
+last_or_earlier : (view : WriterView) (n : ℕ) (one : Reply) → AreAnswers view → At view.letters.answers n one
+    → (last_reply view.letters.answers ≡ one) ⊎ (one.flush < last_flush view.letters.answers)
+last_or_earlier view n one are at =
+    let answers = view.letters.answers in let inside = at_inside answers one n at in let last = last_there answers (omega arith) in
+    dite (ℕ_discrete n (length answers - 1))
+    (λ same. inl (ap (λ i. get_or answers i no_reply) (sym same) ∙ at_get answers n no_reply one at))
+    (λ differs. inr (are.rising n (length answers - 1) one (last_reply answers) (omega (arith, inside, differs)) at last))
+
 -- none is to a later request
 most_last : (view : WriterView) (n : ℕ) (one : Reply) → AreAnswers view → At view.letters.answers n one → one.flush ≤ last_flush view.letters.answers
 most_last view n one are at =
-    let answers = view.letters.answers in let inside = at_inside answers one n at in let last = last_there answers (omega arith) in
-    dite (ℕ_discrete n (length answers - 1))
-    (λ same. let is : last_reply answers ≡ one = ap (λ i. get_or answers i no_reply) (sym same) ∙ at_get answers n no_reply one at in let flush = ap (λ (r : Reply). r.flush) is in omega (arith, flush))
-    (λ differs. let less = are.rising n (length answers - 1) one (last_reply answers) (omega (arith, inside, differs)) at last in omega (arith, less))
+    ⊎_elim (λ is. let flush = ap (λ (r : Reply). r.flush) is in omega (arith, flush)) (λ less. omega (arith, less)) (last_or_earlier view n one are at)
+
+-- one that the service read is to no later request, and to the same one where it is the last
+heard_no_older : (world : World) (k : ℕ) → AreLetters world
+    → IsNoOlder world.service k (last_flush (writer world k).letters.answers) (last_reply (writer world k).letters.answers).chunks
+heard_no_older world k letters n number many at some =
+    let mine = writer world k in let was = letters.heard n k number many at some in let is_flush = was.3 in
+    let most = most_last mine was.0 was.1 (letters.answers k) was.2 in (
+      omega (arith, most, is_flush),
+      λ same. ⊎_elim
+          (λ is. sym was.4 ∙ sym (ap (λ (r : Reply). r.chunks) is))
+          (λ less. absurd (omega (arith, less, is_flush, same)))
+          (last_or_earlier mine was.0 was.1 (letters.answers k) was.2),
+    )
 
 -- it is to a request that the writer knew of, and its chunks fit in their half of the word
 pub last_known : (view : WriterView) → AreAnswers view → (last_flush view.letters.answers ≤ view.letters.known) × ((last_reply view.letters.answers).chunks < 4294967296)
@@ -70,6 +90,17 @@ last_known view are = by_answers view.letters.answers refl
         let many = ap (λ (l : List Reply). length l) is in
         let each = are.each (length view.letters.answers - 1) (last_reply view.letters.answers) (last_there view.letters.answers (omega (arith, many))) in
         (each.known, each.small)
+
+-- a writer whose last answer has the number 0 gave none, and so no chunks
+last_none : (view : WriterView) → AreAnswers view → last_flush view.letters.answers ≡ 0 → (last_reply view.letters.answers).chunks ≡ 0
+last_none view are none = by_answers view.letters.answers refl
+  where
+    by_answers : (answers : List Reply) → view.letters.answers ≡ answers → (last_reply view.letters.answers).chunks ≡ 0
+    by_answers [] is = ap (λ (l : List Reply). (last_reply l).chunks) is
+    by_answers (one ∷ answers) is =
+        let many = ap (λ (l : List Reply). length l) is in
+        let each = are.each (length view.letters.answers - 1) (last_reply view.letters.answers) (last_there view.letters.answers (omega (arith, many))) in
+        let some = each.some in absurd (omega (arith, some, none))
 
 -- ---- how many requests were made
 
@@ -147,11 +178,17 @@ learns_allowed setup count id k v s r deep at small =
 
 -- ---- it answers
 
+-- no more chunks are completed than were begun
+some_completed : (begun : List BegunChunk) → length (completed_images begun) ≤ length begun
+some_completed [] = omega arith
+some_completed (Held chunk draft ∷ begun) = let some = some_completed begun in omega (arith, some)
+some_completed (Completed chunk content ∷ begun) = let some = some_completed begun in omega (arith, some)
+
 -- the answers with one more
 answers_more : (view : WriterView) (flush chunks : ℕ) → AreAnswers view → MayAnswer view flush chunks → AreAnswers (answers_with view flush chunks)
 answers_more view flush chunks are may =
     let answers = view.letters.answers in let reply : Reply = record { flush = flush; chunks = chunks; calls = length view.calls } in
-    let newer = may.newer in let known = may.known in
+    let newer = may.newer in let known = may.known in let completed = may.completed in let some = some_completed view.begun in
     record {
       rising = λ n m one other less at then. ⊎_elim
           (λ old_then. ⊎_elim
@@ -166,7 +203,7 @@ answers_more view flush chunks are may =
       each = λ n one at. ⊎_elim
           (λ old. let was = are.each n one old in record { some = was.some; known = was.known; small = was.small; chunks = was.chunks; calls = was.calls })
           (λ new. subst (λ (x : Reply). IsReply (answers_with view flush chunks) x) new.1
-          (record { some = omega (arith, newer); known = omega (arith, known); small = may.small; chunks = may.begun; calls = omega arith }))
+          (record { some = omega (arith, newer); known = omega (arith, known); small = may.small; chunks = omega (arith, completed, some); calls = omega arith }))
           (at_more answers reply one n at);
     }
 
@@ -322,6 +359,7 @@ module _ (setup : Setup) (count id made : ℕ) (desk : Desk) where
       (subst (λ n. HasAnswered answers (last_flush answers) n) (sym chunks_is) (last_given answers (omega (arith, flush_is, some)))) in
       let view = hears_answer world.service k flush chunks in let next = serviced world view in
       let same = asked_heard world.service.letters k flush chunks in
+      let mail = heard_mail setup world (set s.words index found) k flush chunks given (mail_loaded setup world s.words index r.mail) in
       let kept = serviced_kept setup r.front r.slots world view r.kept refl refl refl in
       let w_inside : k < length world.writers = let many = r.kept.writers in omega (arith, inside, many) in
       let asked : flush ≤ asked_in world.service.letters = let known = last.0 in let low = r.mail.letters.known k in omega (arith, flush_is, known, low) in
@@ -341,13 +379,19 @@ module _ (setup : Setup) (count id made : ℕ) (desk : Desk) where
           kept = kept;
           led = led_on setup r.roll.marks world next (ReadsAnswerMove k flush chunks) r.led (w_inside, record { flush_is = flush_is; chunks_is = chunks_is }) refl;
           words = words_loaded setup s.words r.front r.slots index r.words;
-          mail = heard_mail setup world (set s.words index found) k flush chunks given (mail_loaded setup world s.words index r.mail);
+          mail = mail;
           bodies = bodies_stay setup s.homes r.slots r.slots r.roll roll r.bodies (λ d. refl) (λ d. same_hand r.roll 0 d f.2);
           manned = subst (λ z. IsManned setup next roll (set s.views id (Service 0 made desk Nothing (hears_answer z k flush chunks)))) (sym f.0) turn;
         },
         record {
           asked = subst (λ (z : ServiceView). flush ≤ asked_in z.letters) (sym f.0) asked;
           fits = let few = r.mail.few in omega (arith, asked, few);
+          none = λ zero. chunks_is ∙ last_none (writer world k) (r.mail.letters.answers k) (sym flush_is ∙ zero);
+          last = subst (λ (z : ServiceView). IsLastAnswer (hears_answer z k flush chunks) k flush chunks) (sym f.0)
+              ∣ (next, kept.owned, mail.letters, refl, record { flush_is = flush_is; chunks_is = chunks_is }) ∣₁;
+          heard = subst (λ (z : ServiceView). IsNoOlder z k flush chunks) (sym f.0)
+              (subst (λ m. IsNoOlder world.service k flush m) (sym chunks_is)
+              (subst (λ m. IsNoOlder world.service k m (last_reply answers).chunks) (sym flush_is) (heard_no_older world k r.mail.letters)));
           told = λ i tale there of. let low = subst (λ p. tale.flush ≤ last_flush (writer world p).letters.answers) of (f.7 i tale there).2 in omega (arith, low, flush_is);
           serves = record { new_is = refl; seen = ∣ (next, kept.owned, ap (λ z. hears_answer z k flush chunks) (sym f.0)) ∣₁ };
         },

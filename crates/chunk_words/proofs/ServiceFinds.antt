@@ -3,11 +3,12 @@ use Rattle.std.proofs.Common.{◌≡◌, ◌≢◌, ℕ, ◌+◌, ◌*◌, ◌/�
 use Rattle.std.specs.Int.{bit_at}
 use native.Mathlib.Decide.{ℕ_discrete}
 use mathlib.Core.Logic.{dite}
+use Rattle.trace_base.specs.declared.limits.TheConstants.{MAX_CHUNKS_PER_PAGE}
 use Rattle.page_geometry.specs.Header.{packed, unpacked}
 use Rattle.page_geometry.specs.PageBits.{HasState}
 use Rattle.page_geometry.specs.declared.chunk_header.ChunkHeader.{ChunkHeader}
 use Rattle.page_geometry.specs.declared.chunk_state.ChunkState.TheVariants as state
-use Rattle.chunk_plain.specs.Setup.{Setup, spot}
+use Rattle.chunk_plain.specs.Setup.{Setup, IsLaid, spot}
 use Rattle.chunk_plain.specs.Payload.{byte_of, byte_at, byte_in, first_bytes, sealed_to}
 use Rattle.chunk_plain.specs.Views.{Head, no_head, Content, Held, Completed, Found}
 use Rattle.chunk_plain.specs.World.{World, Status, Unclaimed, Claimed, Stamped, Writing, Ready, Reading, status, writer}
@@ -130,9 +131,13 @@ says_use setup header (Writing k i draft) shows = packed_back setup header k i d
 says_use setup header (Ready k i content) shows = packed_back setup header k i (head_of content) shows ∙ shows.word_is
 says_use setup header (Reading k i content) shows = packed_back setup header k i (head_of content) shows ∙ shows.word_is
 
-pub finds_by : (setup : Setup) (front : List ℕ) (slots : List Stored) (world : World) (chunk word : ℕ) → IsKept setup front slots world → chunk < length setup.spots
+-- a chunk's place in its page is one of those that a page has
+pub place_inside : (setup : Setup) (chunk : ℕ) → IsLaid setup → chunk < length setup.spots → (spot setup chunk).place < MAX_CHUNKS_PER_PAGE
+place_inside setup chunk laid inside = let place = laid.place chunk inside in let most = laid.chunks chunk inside in omega (arith, place, most)
+
+pub finds_by : (setup : Setup) (front : List ℕ) (slots : List Stored) (world : World) (chunk word : ℕ) → IsLaid setup → IsKept setup front slots world → chunk < length setup.spots
     → StaysFound word (spot setup chunk).place (status world chunk) → Finds setup world chunk word (header_word setup front chunk)
-finds_by setup front slots world chunk word kept inside stays =
+finds_by setup front slots world chunk word laid kept inside stays =
     let low = bit_at word (2 * (spot setup chunk).place) in let high = bit_at word (2 * (spot setup chunk).place + 1) in
     dite (ℕ_discrete low 0)
     (λ zero_. record { found = None; there = λ one e. absurd cc; written = λ one e. absurd cc; says = record { some = λ (s : HasState word (spot setup chunk).place state.BeingWritten). absurd (let one : low ≡ 1 = s.low in omega arith); none = λ _. refl } })
@@ -144,7 +149,7 @@ finds_by setup front slots world chunk word kept inside stays =
       there = λ one e. subst (λ (f : Found). IsFound f × IsThere (writer world f.place) chunk f) (let same : finds.one ≡ one = cc in same) (finds.found, finds.there);
       written = λ one e. subst (moves.FindsWritten world word (packed (unpacked (header_word setup front chunk)))) (let same : finds.one ≡ one = cc in same) (record {
         header_is = packed_back setup (header_word setup front chunk) finds.one.place finds.one.id finds.one.head finds.is_header ∙ finds.is_header.word_is;
-        written = ((spot setup chunk).place, written);
+        written = ((spot setup chunk).place, place_inside setup chunk laid inside, written);
         untaken = finds.of_header.untaken;
       });
       says = record { some = λ _. (finds.one, refl, finds.of_header); none = λ no_. absurd (no_ written) };

@@ -35,7 +35,7 @@ use Rattle.chunk_words.proofs.MailWords.{mail_apart, mail_loaded, mail_by_servic
 use Rattle.chunk_words.proofs.Turns.{served_change, serviced_change, same_service, service_turn}
 use Rattle.chunk_words.proofs.WriterMoves.{Table, front_many, page_front, page_is, chunk_inside}
 use Rattle.chunk_words.proofs.WriterEnds.{words_loaded}
-use Rattle.chunk_words.proofs.ServiceFinds.{Finds, stays_found, finds_by, packed_back, says_use, watch_on, watch_on_true, tells_of}
+use Rattle.chunk_words.proofs.ServiceFinds.{Finds, stays_found, finds_by, packed_back, place_inside, says_use, watch_on, watch_on_true, tells_of}
 
 pub header_is : (setup : Setup) (s : Table) (r : IsShared setup s) (chunk : ℕ) → chunk < length setup.spots → get_or s.words (front_place (setup.pages + chunk)) 0 ≡ header_word setup r.front chunk
 header_is setup s r chunk inside = r.words.front_is (setup.pages + chunk) (omega arith)
@@ -104,7 +104,7 @@ module _ (setup : Setup) (count id made : ℕ) (desk : Desk) where
       let watch = Peeked chunk word in
       let f = r.manned.each id (Service 0 made desk watch v) at in
       let header = get_or s.words (front_place (setup.pages + chunk)) 0 in let is = header_is setup s r chunk inside in
-      let finds = finds_by setup r.front r.slots r.world chunk word r.kept inside f.5 in
+      let finds = finds_by setup r.front r.slots r.world chunk word r.laid r.kept inside f.5 in
       let view = looks_at r.world.service chunk word (packed (unpacked header)) finds.found in
       let kept = serviced_shown setup r.front r.slots r.world view r.kept (looks_owned r.world chunk word (packed (unpacked header)) finds.found r.kept.owned finds.there) in (
         Service 0 made desk Nothing view,
@@ -291,7 +291,7 @@ module _ (setup : Setup) (count id made : ℕ) (desk : Desk) where
           laid = r.laid;
           kept = kept;
           led = led_on setup r.roll.marks world next (TakesMove place chunk word (packed (unpacked header))) r.led
-              (w_inside, c_inside, (content, ready), says_use setup header (status world chunk) (shown_by header (status world chunk) f.5), (at_.place, complete))
+              (w_inside, c_inside, (content, ready), says_use setup header (status world chunk) (shown_by header (status world chunk) f.5), (at_.place, place_inside setup chunk r.laid inside, complete))
               (ap (λ t. served world view chunk (read_as t)) ready);
           words = words_front setup s.words r.front r.slots at_.page new (page_front setup s r chunk inside) (front_many setup s r) r.words;
           mail = mail_by_service setup world next (set s.words (front_place at_.page) new) refl refl

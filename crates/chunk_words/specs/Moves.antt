@@ -12,15 +12,16 @@ use Rattle.page_geometry.specs.PageBits.{HasState}
 use Rattle.trace_base.specs.declared.limits.TheConstants.{MAX_FRAGMENTS}
 use Rattle.commit_body.specs.declared.body.CommitBody.{CommitBody}
 use Rattle.chunk_plain.specs.Payload.{byte_of, byte_in, sealed_to, StoredUpTo}
-use Rattle.chunk_plain.specs.Views.{At, Head, Draft, Content, Found, Look, Noted, asked_in, ServiceView, taken_of}
-use Rattle.chunk_plain.specs.World.{World}
+use Rattle.chunk_plain.specs.Views.{At, Head, Draft, Content, Found, Look, Noted, Heard, asked_in, ServiceView, taken_of}
+use Rattle.chunk_plain.specs.World.{World, writer}
 use Rattle.chunk_plain.specs.Steps.{claims, stamps, begins, redrafts, with_head, with_word, with_words, completes, notes_call, looks_at, takes_in, learns, lets_go, notes, notes_commit}
-use Rattle.chunk_plain.specs.Letters.{knows_request, answers_with, requests, hears_answer}
+use Rattle.chunk_plain.specs.Letters.{AreLetters, knows_request, answers_with, requests, hears_answer}
 use Rattle.chunk_plain.specs.Owned.{times, IsOwned}
 use Rattle.chunk_plain.specs.Drafts.{draft_at, head_at, ends_by, head_of}
 use Rattle.chunk_plain.specs.Shows.{IsBodyOf, content_of}
 use Rattle.chunk_plain.specs.Setup.{Setup, spot, sequence_of}
 use Rattle.chunk_plain.specs.Words.{LooksAt, call_of, event_of, committed_of}
+use Rattle.chunk_schedules.specs.Moves.{IsLastOf}
 use Rattle.chunk_words.specs.declared.moves.Move.{Move}
 use Rattle.chunk_words.specs.declared.moves.Move.TheVariants.{Ask, Claim, Stamp, Begin, SetHeader, Publish, Fetch, Complete as CompleteStep, Call as CallStep, Peek, Find, Know, Miss, Take, Load, Learn, Lift, Release, Event, NoteRead, Recall, Mark, Commit, LearnRequest, Answer, Request, NoteRequest, ReadAnswer, Compare}
 use Rattle.chunk_words.specs.GoesOn.{GoesOn}
@@ -186,10 +187,24 @@ pub record LearnsRequest (me : Mine) (found : ℕ) (new : Mine) : Type 0 where
 abbrev pub GivesAnswer : (flush chunks : ℕ) → Mine → Mine → Type 0
 GivesAnswer flush chunks me new = new ≡ (by_writer 0 (λ view. answers_with view flush chunks) me.0, [])
 
--- The service finds the last answer of the writer at this place: to a request that was made, and no older one than the writer told of.
+-- The service's view is its part of some owned world in which this is the last answer of the writer at this place: 0 and 0 where it gave none.
+abbrev pub IsLastAnswer : ServiceView → (place flush chunks : ℕ) → Type 0
+IsLastAnswer view place flush chunks =
+    ∥ ((world : World) × IsOwned world × AreLetters world × (world.service ≡ view) × IsLastOf (writer world place) flush chunks) ∥₁
+
+-- It is no older answer than any that the service read of this writer before, and the same one as that to the same request.
+abbrev pub IsNoOlder : ServiceView → (place flush chunks : ℕ) → Type 0
+IsNoOlder view place flush chunks = (n number many : ℕ) → At view.letters n (Heard place number many) → 0 < number
+    → (number ≤ flush) × (number ≡ flush → many ≡ chunks)
+
+-- The service finds the last answer of the writer at this place: to a request that was made, and no older one than the writer told of or than
+-- the service read before; or 0 and 0.
 pub record ReadsAnswer (place : ℕ) (me : Mine) (found : ℕ) (new : Mine) : Type 0 where
   pub asked : found / 2 ^ 32 ≤ asked_in (service_of me.0).letters
   pub fits : found / 2 ^ 32 < 2 ^ 32
+  pub none : found / 2 ^ 32 ≡ 0 → found % 2 ^ 32 ≡ 0
+  pub last : IsLastAnswer (hears_answer (service_of me.0) place (found / 2 ^ 32) (found % 2 ^ 32)) place (found / 2 ^ 32) (found % 2 ^ 32)
+  pub heard : IsNoOlder (service_of me.0) place (found / 2 ^ 32) (found % 2 ^ 32)
   pub told : (i : ℕ) (tale : Tale) → At (desk_of me.0).told i tale → tale.place ≡ place → tale.flush ≤ found / 2 ^ 32
   pub serves : Serves (λ view. hears_answer view place (found / 2 ^ 32) (found % 2 ^ 32)) me new
 

@@ -3,12 +3,14 @@
 //! before it, and how many chunks it had completed by then. Each word is stored by one seat alone.
 //! A request is noted while the reading pass is joined to the service's seat, as a read is, and the
 //! pass gives notice of requests to writers.
-ghost use Rattle.std.specs.Prelude.{◌≡◌, ℕ, ◌+◌, ◌-◌, ◌/◌, ◌%◌, ◌^◌, ◌<◌, ◌≤◌, [], length};
+ghost use Rattle.std.specs.Prelude.{◌≡◌, ℕ, ◌+◌, ◌-◌, ◌/◌, ◌%◌, ◌^◌, ◌<◌, ◌≤◌, [], length, take};
 ghost use Rattle.chunk_plain.specs.Views.{At, asked_in};
+ghost use Rattle.chunk_plain.specs.Histories.{completed_images};
 ghost use Rattle.chunk_plain.specs.Letters.{last_flush, knows_request, answers_with, requests, hears_answer};
+ghost use Rattle.chunk_plain.specs.Owned.{held_count};
 ghost use Rattle.chunk_words.specs.GoesOn.{GoesOn};
 ghost use Rattle.chunk_words.specs.Knows.{Tale, Here, Away, Unmade, view_of, service_of, desk_of, stage_of, passed_of, staged, with_stage, later};
-ghost use Rattle.chunk_words.specs.Moves.{LearnsRequest, GivesAnswer, ReadsAnswer, NotesRequest, Compares, Serves};
+ghost use Rattle.chunk_words.specs.Moves.{LearnsRequest, GivesAnswer, IsLastAnswer, IsNoOlder, ReadsAnswer, NotesRequest, Compares, Serves};
 ghost use Rattle.chunk_words.specs.Seats.{IsIdle, IsServiceIdle};
 ghost use Rattle.chunk_words.specs.Sits.{Sits, Attends, Passes};
 
@@ -53,12 +55,14 @@ impl HostTable {
         self.step_learn_request(seat) as u32
     }
 
-    /// The writer answers the last request that it knows of, and those before it, with so many chunks.
+    /// The writer answers the last request that it knows of, and those before it, with the chunks that it
+    /// has completed: as many, and the first ones that it began, none of which it holds.
     pub fn answer(&self, seat: &mut WriterSeat, flush: u32, chunks: u32)
         requires seat { Sits self.now seat.old }
         requires known { flush ≡ (view_of seat.old.seat.me.0).letters.known }
         requires newer { last_flush (view_of seat.old.seat.me.0).letters.answers < flush }
-        requires chunks { chunks ≤ length (view_of seat.old.seat.me.0).begun }
+        requires chunks { chunks ≡ length (completed_images (view_of seat.old.seat.me.0).begun) }
+        requires none_held { held_count (take chunks (view_of seat.old.seat.me.0).begun) ≡ 0 }
         ensures view { view_of seat.new.seat.me.0 ≡ answers_with (view_of seat.old.seat.me.0) flush chunks }
         ensures place { seat.new.place ≡ seat.old.place }
         ensures seat { Sits self.now seat.new }
@@ -79,8 +83,8 @@ impl HostTable {
     }
 
     /// The last answer of a writer: the number of its request and how many chunks, both 0 without one.
-    /// It is to a request that was made, and to no older one than the writer told of. Writers count
-    /// from 1.
+    /// It is to a request that was made, and to no older one than the writer told of or than was read of
+    /// it before; what was read to the same request is the same. Writers count from 1.
     pub fn answered(&self, seat: &mut ServiceSeat, writer: u16) -> (u32, u32)
         requires seat { Attends self.now seat.old }
         requires least { 1 ≤ writer }
@@ -89,6 +93,9 @@ impl HostTable {
         ensures asked { result.0 ≤ asked_in (service_of seat.old.seat.me.0).letters }
         ensures told { (i : ℕ) (tale : Tale) → At (desk_of seat.old.seat.me.0).told i tale → tale.place ≡ writer - 1
             → tale.flush ≤ result.0 }
+        ensures none { result.0 ≡ 0 → result.1 ≡ 0 }
+        ensures last { IsLastAnswer (service_of seat.new.seat.me.0) (writer - 1) result.0 result.1 }
+        ensures heard { IsNoOlder (service_of seat.old.seat.me.0) (writer - 1) result.0 result.1 }
         ensures desk { desk_of seat.new.seat.me.0 ≡ desk_of seat.old.seat.me.0 }
         ensures seat { Attends self.now seat.new }
     {
@@ -179,7 +186,8 @@ impl HostTable {
         requires place { seat.old.place < length self.now.layout.writers }
         requires known { flush ≡ (view_of seat.old.seat.me.0).letters.known }
         requires newer { last_flush (view_of seat.old.seat.me.0).letters.answers < flush }
-        requires chunks { chunks ≤ length (view_of seat.old.seat.me.0).begun }
+        requires chunks { chunks ≡ length (completed_images (view_of seat.old.seat.me.0).begun) }
+        requires none_held { held_count (take chunks (view_of seat.old.seat.me.0).begun) ≡ 0 }
         ensures seat { seat.new.seat.table_id ≡ seat.old.seat.table_id }
         ensures place { seat.new.place ≡ seat.old.place }
         ensures me { GivesAnswer flush chunks seat.old.seat.me seat.new.seat.me }

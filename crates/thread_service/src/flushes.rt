@@ -9,6 +9,7 @@ ghost use Rattle.chunk_plain.specs.Views.{At, asked_in};
 ghost use Rattle.chunk_words.specs.declared.host.HostTable.{HostTable};
 ghost use Rattle.chunk_words.specs.GoesOn.{GoesOn};
 ghost use Rattle.chunk_words.specs.Knows.{Away, Tale, Unmade, with_stage};
+ghost use Rattle.chunk_words.specs.Moves.{IsLastAnswer, IsNoOlder};
 ghost use Rattle.chunk_words.specs.Sits.{Passes, known_by_pass, setup_in};
 ghost use Rattle.service_core.specs.Agreement.{KeepsTaking, IsAnsweredBy};
 ghost use Rattle.thread_service.specs.Reading.{IsKnownWhole, PassReads};
@@ -77,7 +78,8 @@ impl Service {
     }
 
     /// The last answer of a writer: the number of its request and how many chunks, both 0 without one. It
-    /// is to no older request than the writer told of. Writers count from 1.
+    /// is to no older request than the writer told of or than was read of it before; what was read to the
+    /// same request is the same. Writers count from 1.
     pub fn answer_of(&mut self, table: &HostTable, writer: u16) -> (u32, u32)
         requires serves { Serves table.now self.old }
         requires least { 1 ≤ writer }
@@ -86,6 +88,9 @@ impl Service {
         ensures view { view_in self.new ≡ hears_answer (view_in self.old) (writer - 1) result.0 result.1 }
         ensures asked { result.0 ≤ (core_of self.old).session.requests }
         ensures told { (i : ℕ) (tale : Tale) → At (desk_in self.old).told i tale → tale.place ≡ writer - 1 → tale.flush ≤ result.0 }
+        ensures none { result.0 ≡ 0 → result.1 ≡ 0 }
+        ensures last { IsLastAnswer (view_in self.new) (writer - 1) result.0 result.1 }
+        ensures heard { IsNoOlder (view_in self.old) (writer - 1) result.0 result.1 }
         ensures desk { desk_in self.new ≡ desk_in self.old }
         ensures only { IsOnlySeat (core_of self.old) (core_of self.new) }
     {
