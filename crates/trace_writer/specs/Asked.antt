@@ -11,7 +11,7 @@ use Rattle.trace_writer.specs.declared.fault.CallFault.{CallFault}
 use Rattle.trace_writer.specs.declared.route.Route.{Route}
 use Rattle.trace_writer.specs.Helping.{LeavesWriters, LeavesOthers, Works, loses, rounds_for, refuses}
 use Rattle.trace_writer.specs.Losing.{LosesBehind}
-use Rattle.trace_writer.specs.OwnSteps.{IsQuiet, IsSilent, GetsChunk, IsInVain, IsOutNow}
+use Rattle.trace_writer.specs.OwnSteps.{IsQuiet, IsSilent, GetsChunk, IsVainTry, IsOutNow}
 
 -- What is noted of a field call. Where it stops since no chunk is to be had, a writer that loses packets gives its own up.
 abbrev pub written_as : Bool → WriterPolicy → Call → List Call
@@ -33,14 +33,14 @@ stops_with (Ok Kept) = false
 stops_with (Ok Dropping) = true
 stops_with (Err fault) = true
 
--- A call of a writer that isn't stalled: what it did, whether it stopped since no chunk was to be had, which calls it noted behind
+-- A call of a writer that isn't stalled, which may be a packet's begin: what it did, whether it stopped since no chunk was to be had, which calls it noted behind
 -- its claims, whether its writer is stalled now, and its steps. A writer that loses its packet does so behind its rounds of claims in
 -- vain, and makes at most so many for each chunk that it begins, and for the chunk that isn't there.
 pub record IsAsked {H T W S : Type 0} (means : Meaning T W S) (needs : H → T → Type 0) (helps : H → T → ℕ → Bool → H → T → Type 0)
-    (route : Route) (helper : H) (old : T) (seat : W) (steps : ℕ) (stopped : Bool) (noted : List Call) (stalled : Bool) (left : H) (new : T) (after : W) (later : ℕ) : Type 0 where
+    (begins : Bool) (route : Route) (helper : H) (old : T) (seat : W) (steps : ℕ) (stopped : Bool) (noted : List Call) (stalled : Bool) (left : H) (new : T) (after : W) (later : ℕ) : Type 0 where
   pub others : LeavesOthers means old seat new after
   pub works : Works route.spec.policy (IsSilent means) (IsQuiet means)
-      (GetsChunk means route) (IsInVain means route) (IsOutNow means route)
+      (GetsChunk means route) (IsVainTry means route begins) (IsOutNow means route)
       (λ asked table answer behind freed. helps asked table route.spec.producer answer behind freed × LeavesWriters means table freed)
       helper old seat stopped left new after
   pub needed : needs left new

@@ -4,7 +4,7 @@ use Rattle.trace_base.specs.declared.policy.WriterPolicy.{WriterPolicy}
 use Rattle.trace_base.specs.declared.policy.WriterPolicy.TheVariants.{Drops, Stalls, StallsThenDrops}
 use Rattle.chunk_plain.specs.Meaning.{Meaning}
 use Rattle.trace_writer.specs.declared.route.Route.{Route}
-use Rattle.trace_writer.specs.OwnSteps.{IsSilent, GetsChunk, IsInVain, IsOutNow}
+use Rattle.trace_writer.specs.OwnSteps.{IsSilent, GetsChunk, IsVainTry, IsOutNow}
 
 -- a help leaves the view of each writer's seat
 pub record LeavesWriters {T W S : Type 0} (means : Meaning T W S) (old new : T) : Type 0 where
@@ -78,13 +78,13 @@ pub data Works {H T W : Type 0} (policy : WriterPolicy) (silent last gets vain o
       → policy ≡ StallsThenDrops tries → Tries gets vain helps tries helper old seat true left mid between → last mid between new after
       → Works policy silent last gets vain out helps helper old seat true left new after
 
--- What a writer does to its table, its seat and its helper before it notes its call, whether it stops since no chunk is to be had,
--- and its steps: each claim is one, and each begin of a chunk.
+-- What a writer does to its table, its seat and its helper before it notes its call, which may be a packet's begin, whether it stops since
+-- no chunk is to be had, and its steps: each claim is one, and each begin of a chunk.
 pub record IsWork {H T W S : Type 0} (means : Meaning T W S) (needs : H → T → Type 0) (helps : H → T → ℕ → Bool → H → T → Type 0)
-    (route : Route) (helper : H) (old : T) (seat : W) (steps : ℕ) (stopped : Bool) (left : H) (new : T) (after : W) (later : ℕ) : Type 0 where
+    (begins : Bool) (route : Route) (helper : H) (old : T) (seat : W) (steps : ℕ) (stopped : Bool) (left : H) (new : T) (after : W) (later : ℕ) : Type 0 where
   pub others : LeavesOthers means old seat new after
   pub works : Works route.spec.policy (IsSilent means) (IsSilent means)
-      (GetsChunk means route) (IsInVain means route) (IsOutNow means route)
+      (GetsChunk means route) (IsVainTry means route begins) (IsOutNow means route)
       (λ asked table answer behind freed. helps asked table route.spec.producer answer behind freed × LeavesWriters means table freed)
       helper old seat stopped left new after
   pub needed : needs left new

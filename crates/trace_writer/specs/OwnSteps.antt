@@ -64,6 +64,12 @@ pub record IsInVain {T W S : Type 0} (means : Meaning T W S) (route : Route) (ol
   pub none_free : (world : World) → means.told old ≡ Some world
       → (next : World) × (means.told now ≡ Some next) × NoneFree next route.arbiter.first (route.arbiter.first + route.arbiter.chunks)
 
+-- The same round, of a writer that tries for a chunk: at a packet's begin it holds none before it, since it has completed the chunk that it
+-- held; in the midst of a packet it may hold one.
+pub record IsVainTry {T W S : Type 0} (means : Meaning T W S) (route : Route) (begins : Bool) (old : T) (seat : W) (now : T) (asker : W) : Type 0 where
+  pub vain : IsInVain means route old seat now asker
+  pub none_held : begins ≡ true → NoneHeld (means.view old seat).begun
+
 -- The writer is out of chunks, and has just found it so: its last round of claims was in vain, and it holds none.
 pub record IsOutNow {T W S : Type 0} (means : Meaning T W S) (route : Route) (old : T) (seat : W) (now : T) (asker : W) : Type 0 where
   pub vain : IsInVain means route old seat now asker

@@ -22,5 +22,5 @@ pub record IsWritten {H T W S A : Type 0} (means : Meaning T W S) (needs : H →
   pub answers : is_stalled old.state ≡ false
       → MatchResult answer (λ _. is_stalled new.state ≡ false) (λ fault. (fault ≡ Stalled) × (is_stalled new.state ≡ true))
   pub done : is_stalled old.state ≡ false → (stopped : Bool)
-      × IsAsked means needs helps old.route helper table seat steps stopped (written_as stopped old.route.spec.policy call) (is_stalled new.state) left behind after later
+      × IsAsked means needs helps false old.route helper table seat steps stopped (written_as stopped old.route.spec.policy call) (is_stalled new.state) left behind after later
       × (stopped ≡ true → newest_is_lost (packets_of (means.view table seat).calls) ≡ false)

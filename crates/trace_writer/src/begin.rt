@@ -60,7 +60,7 @@ fn new_place<W: Words, L: Ledger, H: HelperOn<W>>(
         → IsIdle (site_of (W.means.setup table.old) (W.means.place seat.old) route.now) account (W.means.view table.old seat.old) pending
         → IsPlace (site_of (W.means.setup table.old) (W.means.place seat.old) route.now) account (W.means.view table.new seat.new) pending
         result }
-    ensures work { IsWork W.means H.needs H.helps
+    ensures work { IsWork W.means H.needs H.helps true
         route.now help.old table.old seat.old steps.old (not (is_behind result)) help.new table.new seat.new steps.new }
     ensures few_steps { route.now.spec.policy ≡ Drops → steps.new ≤ steps.old + route.now.arbiter.chunks + 1 }
 {
@@ -95,7 +95,7 @@ fn held_or_new_place<W: Words, L: Ledger, H: HelperOn<W>>(
         pending.new result }
     ensures asked { has_room (vec_len chunk.held.body.payload) chunk ≡ true
         → (W.means.view table.new seat.new).asked ≡ (W.means.view table.old seat.old).asked }
-    ensures work { IsWork W.means H.needs H.helps
+    ensures work { IsWork W.means H.needs H.helps true
         route.now help.old table.old seat.old steps.old (not (is_behind result)) help.new table.new seat.new steps.new }
     ensures few_steps { route.now.spec.policy ≡ Drops → steps.new ≤ steps.old + route.now.arbiter.chunks + 1 }
 {
@@ -214,7 +214,7 @@ pub(crate) fn begin<W: Words, L: Ledger, H: HelperOn<W>>(
         → MatchResult result (λ _. is_stalled_state writer.new.state ≡ false) (λ fault. (fault ≡ call_fault.Stalled)
         × (is_stalled_state writer.new.state ≡ true)) }
     ensures done { is_stalled_state writer.old.state ≡ false
-        → IsAsked W.means H.needs H.helps
+        → IsAsked W.means H.needs H.helps true
         writer.old.route help.old table.old seat.old steps.old (stops_with result)
         (begun_as (stops_with result) writer.old.route.spec.policy)
         (is_stalled_state writer.new.state) help.new table.new seat.new steps.new }
@@ -289,7 +289,7 @@ fn begin_elsewhere<W: Words, L: Ledger, H: HelperOn<W>>(
         → MatchResult result (λ _. is_stalled_state writer.new.state ≡ false) (λ fault. (fault ≡ call_fault.Stalled)
         × (is_stalled_state writer.new.state ≡ true)) }
     ensures done { is_stalled_state writer.old.state ≡ false
-        → IsAsked W.means H.needs H.helps
+        → IsAsked W.means H.needs H.helps true
         writer.old.route help.old table.old seat.old steps.old (stops_with result)
         (begun_as (stops_with result) writer.old.route.spec.policy)
         (is_stalled_state writer.new.state) help.new table.new seat.new steps.new }

@@ -1,5 +1,5 @@
 //! How a writer gets its next chunk.
-ghost use Rattle.std.specs.Prelude.{◌≡◌, ◌+◌, ◌^◌, ◌-◌, ◌<◌, ◌≤◌, length, not, is_some, IfSome, IfNone};
+ghost use Rattle.std.specs.Prelude.{◌≡◌, ◌+◌, ◌^◌, ◌-◌, ◌<◌, ◌≤◌, true, false, length, not, is_some, IfSome, IfNone};
 ghost use Rattle.chunk_plain.specs.declared.tokens.TheConstants.{ID_LIMIT, MAX_HELD};
 ghost use Rattle.trace_base.specs.declared.policy.WriterPolicy.TheVariants.{Drops, Stalls, StallsThenDrops};
 ghost use Rattle.chunk_plain.specs.Owned.{held_count};
@@ -38,7 +38,9 @@ pub(crate) fn claim_asking<W: Words, L: Ledger, H: HelperOn<W>>(
     ensures won { IfSome result (λ held. Wins route.now held.chunk (W.means.view table.old seat.old) (W.means.view table.new seat.new)) }
     ensures begun { IfSome result (λ held. IsBegun (W.means.setup table.old) held.chunk next_id held) }
     ensures none { IfNone result (FindsNone (W.means.view table.old seat.old) (W.means.view table.new seat.new)) }
-    ensures work { IsWork W.means H.needs H.helps
+    ensures work { IsWork W.means H.needs H.helps false
+        route.now help.old table.old seat.old steps.old (not (is_some result)) help.new table.new seat.new steps.new }
+    ensures begins { IsWork W.means H.needs H.helps true
         route.now help.old table.old seat.old steps.old (not (is_some result)) help.new table.new seat.new steps.new }
 {
     'claims: loop {
@@ -72,7 +74,9 @@ pub(crate) fn claim_trying<W: Words, L: Ledger, H: HelperOn<W>>(
     ensures won { IfSome result (λ held. Wins route.now held.chunk (W.means.view table.old seat.old) (W.means.view table.new seat.new)) }
     ensures begun { IfSome result (λ held. IsBegun (W.means.setup table.old) held.chunk next_id held) }
     ensures none { IfNone result (FindsNone (W.means.view table.old seat.old) (W.means.view table.new seat.new)) }
-    ensures work { IsWork W.means H.needs H.helps
+    ensures work { IsWork W.means H.needs H.helps false
+        route.now help.old table.old seat.old steps.old (not (is_some result)) help.new table.new seat.new steps.new }
+    ensures begins { NoneHeld (W.means.view table.old seat.old).begun → IsWork W.means H.needs H.helps true
         route.now help.old table.old seat.old steps.old (not (is_some result)) help.new table.new seat.new steps.new }
 {
     let mut left = tries;
@@ -104,7 +108,7 @@ pub(crate) fn claim_next<W: Words, L: Ledger, H: HelperOn<W>>(
     ensures won { IfSome result (λ held. Wins route.now held.chunk (W.means.view table.old seat.old) (W.means.view table.new seat.new)) }
     ensures begun { IfSome result (λ held. IsBegun (W.means.setup table.old) held.chunk next_id held) }
     ensures none { IfNone result (FindsNone (W.means.view table.old seat.old) (W.means.view table.new seat.new)) }
-    ensures work { IsWork W.means H.needs H.helps
+    ensures work { IsWork W.means H.needs H.helps true
         route.now help.old table.old seat.old steps.old (not (is_some result)) help.new table.new seat.new steps.new }
     ensures few_steps { route.now.spec.policy ≡ Drops → steps.new ≤ steps.old + route.now.arbiter.chunks + 1 }
 {

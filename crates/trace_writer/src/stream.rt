@@ -1,6 +1,6 @@
 //! The bytes of a packet, streamed into chunks: where a chunk ends the packet runs on in the next
 //! one, or stops where none is free.
-ghost use Rattle.std.specs.Prelude.{◌≡◌, ℕ, ◌+◌, ◌-◌, ◌*◌, ◌<◌, ◌≤◌, ◌⊎◌, true, [], ◌∷◌, ◌++◌, length, vec_len};
+ghost use Rattle.std.specs.Prelude.{◌≡◌, ℕ, ◌+◌, ◌-◌, ◌*◌, ◌<◌, ◌≤◌, ◌⊎◌, true, false, [], ◌∷◌, ◌++◌, length, vec_len};
 ghost use Rattle.std.specs.List.{repeat};
 ghost use Rattle.trace_base.specs.declared.limits.TheConstants.{MAX_OPEN_HOLES};
 ghost use Rattle.trace_writer.specs.Site.{IsRoute, site_of};
@@ -46,7 +46,7 @@ pub(crate) fn run_on<W: Words, L: Ledger, H: HelperOn<W>>(
     requires ids { HasIds fragment 1 }
     ensures flow { Continues (W.means.setup table.old) (W.means.place seat.old) route.now (W.means.view table.old seat.old)
         (W.means.view table.new seat.new) pending.old pending.new fragment result }
-    ensures work { IsWork W.means H.needs H.helps
+    ensures work { IsWork W.means H.needs H.helps false
         route.now help.old table.old seat.old steps.old (is_stopped result) help.new table.new seat.new steps.new }
 {
     match route.spec.policy {
@@ -113,7 +113,7 @@ fn run_on_or_try<W: Words, L: Ledger, H: HelperOn<W>>(
     requires ids { HasIds fragment 1 }
     ensures flow { Continues (W.means.setup table.old) (W.means.place seat.old) route.now (W.means.view table.old seat.old)
         (W.means.view table.new seat.new) pending.old pending.new fragment result }
-    ensures work { IsWork W.means H.needs H.helps
+    ensures work { IsWork W.means H.needs H.helps false
         route.now help.old table.old seat.old steps.old (is_stopped result) help.new table.new seat.new steps.new }
 {
     let next_id = fragment.held.id + 1;
@@ -147,7 +147,7 @@ fn run_on_or_stall<W: Words, L: Ledger, H: HelperOn<W>>(
     requires ids { HasIds fragment 1 }
     ensures flow { Continues (W.means.setup table.old) (W.means.place seat.old) route.now (W.means.view table.old seat.old)
         (W.means.view table.new seat.new) pending.old pending.new fragment result }
-    ensures work { IsWork W.means H.needs H.helps
+    ensures work { IsWork W.means H.needs H.helps false
         route.now help.old table.old seat.old steps.old (is_stopped result) help.new table.new seat.new steps.new }
 {
     let next_id = fragment.held.id + 1;
@@ -205,7 +205,7 @@ pub(crate) fn put_piece<W: Words, L: Ledger, H: HelperOn<W>>(
     requires ids { HasIds fragment (length piece.now) }
     ensures flow { Flows (W.means.setup table.old) (W.means.place seat.old) route.now (W.means.view table.old seat.old)
         (W.means.view table.new seat.new) pending.old pending.new fragment piece.now result }
-    ensures work { IsWork W.means H.needs H.helps
+    ensures work { IsWork W.means H.needs H.helps false
         route.now help.old table.old seat.old steps.old (is_stopped result) help.new table.new seat.new steps.new }
 {
     let mut fragment = fragment;
@@ -243,7 +243,7 @@ pub(crate) fn put_times<W: Words, L: Ledger, H: HelperOn<W>>(
     requires ids { HasIds fragment (times * length piece.now) }
     ensures flow { Flows (W.means.setup table.old) (W.means.place seat.old) route.now (W.means.view table.old seat.old)
         (W.means.view table.new seat.new) pending.old pending.new fragment (repeat times piece.now) result }
-    ensures work { IsWork W.means H.needs H.helps
+    ensures work { IsWork W.means H.needs H.helps false
         route.now help.old table.old seat.old steps.old (is_stopped result) help.new table.new seat.new steps.new }
 {
     let mut fragment = fragment;
@@ -280,7 +280,7 @@ pub(crate) fn put_length<W: Words, L: Ledger, H: HelperOn<W>>(
     requires few { length pending.old.holes < MAX_OPEN_HOLES }
     ensures flow { SetsLength (W.means.setup table.old) (W.means.place seat.old) route.now (W.means.view table.old seat.old)
         (W.means.view table.new seat.new) pending.old pending.new fragment result }
-    ensures work { IsWork W.means H.needs H.helps
+    ensures work { IsWork W.means H.needs H.helps false
         route.now help.old table.old seat.old steps.old (is_stopped result) help.new table.new seat.new steps.new }
 {
     let mut fragment = fragment;
@@ -319,7 +319,7 @@ pub(crate) fn put_field<W: Words, L: Ledger, H: HelperOn<W>>(
     ensures flow { Writes (W.means.setup table.old) (W.means.place seat.old) route.now (W.means.view table.old seat.old)
         (W.means.view table.new seat.new) pending.old pending.new fragment (length head.now + times * length text.now)
         (with_more (head.now ++ repeat times text.now)) result }
-    ensures work { IsWork W.means H.needs H.helps
+    ensures work { IsWork W.means H.needs H.helps false
         route.now help.old table.old seat.old steps.old (is_stopped result) help.new table.new seat.new steps.new }
 {
     match put_piece(route, table, seat, help, pending, fragment, head, steps) {
@@ -349,7 +349,7 @@ pub(crate) fn put_nested<W: Words, L: Ledger, H: HelperOn<W>>(
     ensures flow { Writes (W.means.setup table.old) (W.means.place seat.old) route.now (W.means.view table.old seat.old)
         (W.means.view table.new seat.new) pending.old pending.new fragment (length tag.now + 4)
         (λ (packet : Packet). with_open (with_more tag.now packet)) result }
-    ensures work { IsWork W.means H.needs H.helps
+    ensures work { IsWork W.means H.needs H.helps false
         route.now help.old table.old seat.old steps.old (is_stopped result) help.new table.new seat.new steps.new }
 {
     match put_piece(route, table, seat, help, pending, fragment, tag, steps) {

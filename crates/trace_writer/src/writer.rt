@@ -102,7 +102,7 @@ impl<S> WriterCore<S> {
         ensures answers { refusal_of self.old None ≡ None
             → MatchResult result (λ _. is_stalled self.new ≡ false) (λ fault. (fault ≡ call_fault.Stalled) × (is_stalled self.new ≡ true)) }
         ensures done { refusal_of self.old None ≡ None →
-            IsAsked W.means H.needs H.helps
+            IsAsked W.means H.needs H.helps true
             (route_of self.old) help.old table.old self.old.seat steps.old (stops_with result)
             (begun_as (stops_with result) (route_of self.old).spec.policy)
             (is_stalled self.new) help.new table.new self.new.seat steps.new }
@@ -146,7 +146,7 @@ impl<S> WriterCore<S> {
             → MatchResult result (λ _. is_stalled self.new ≡ false) (λ fault. (fault ≡ call_fault.Stalled) × (is_stalled self.new ≡ true)) }
         ensures done { refusal_of self.old (field_fault (W.means.view table.old self.old.seat) field (length (number_field field value)))
             ≡ None → (stopped : Bool) ×
-            IsAsked W.means H.needs H.helps
+            IsAsked W.means H.needs H.helps false
             (route_of self.old) help.old table.old self.old.seat steps.old stopped
             (written_as stopped (route_of self.old).spec.policy (call.Number field value))
             (is_stalled self.new) help.new table.new self.new.seat steps.new }
@@ -202,7 +202,7 @@ impl<S> WriterCore<S> {
             → MatchResult result (λ _. is_stalled self.new ≡ false) (λ fault. (fault ≡ call_fault.Stalled) × (is_stalled self.new ≡ true)) }
         ensures done { refusal_of self.old (field_fault (W.means.view table.old self.old.seat) field (bytes_size field times value.now))
             ≡ None → (stopped : Bool) ×
-            IsAsked W.means H.needs H.helps
+            IsAsked W.means H.needs H.helps false
             (route_of self.old) help.old table.old self.old.seat steps.old stopped
             (written_as stopped (route_of self.old).spec.policy (call.Bytes field value.now times))
             (is_stalled self.new) help.new table.new self.new.seat steps.new }
@@ -257,7 +257,7 @@ impl<S> WriterCore<S> {
         ensures answers { refusal_of self.old (nested_fault (W.means.view table.old self.old.seat) field) ≡ None
             → MatchResult result (λ _. is_stalled self.new ≡ false) (λ fault. (fault ≡ call_fault.Stalled) × (is_stalled self.new ≡ true)) }
         ensures done { refusal_of self.old (nested_fault (W.means.view table.old self.old.seat) field) ≡ None → (stopped : Bool) ×
-            IsAsked W.means H.needs H.helps
+            IsAsked W.means H.needs H.helps false
             (route_of self.old) help.old table.old self.old.seat steps.old stopped
             (written_as stopped (route_of self.old).spec.policy (call.Nested field))
             (is_stalled self.new) help.new table.new self.new.seat steps.new }

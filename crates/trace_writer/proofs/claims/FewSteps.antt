@@ -8,7 +8,7 @@ use Rattle.chunk_plain.specs.Setup.{Setup}
 use Rattle.claim_arbiter.specs.Claiming.{ClaimsInTurn, lost_asks}
 use Rattle.trace_writer.specs.declared.route.Route.{Route}
 use Rattle.trace_writer.specs.Helping.{LeavesWriters, Tries, Gains, Again, Ends, Works, Done, Silent, Gets, Helped, Refused, Lost, Tried, GivesUp, loses, rounds_for}
-use Rattle.trace_writer.specs.OwnSteps.{IsQuiet, IsSilent, GetsChunk, IsInVain, IsOutNow}
+use Rattle.trace_writer.specs.OwnSteps.{IsQuiet, IsSilent, GetsChunk, IsInVain, IsVainTry, IsOutNow}
 use Rattle.trace_writer.proofs.claims.Asking.{length-lost_asks}
 use Rattle.trace_writer.proofs.holding.KeptChunks.{keeps_long}
 
@@ -79,17 +79,17 @@ module _ {T W S : Type 0} (means : Meaning T W S) where
       )
 
 module _ {H T W S : Type 0} (means : Meaning T W S) where
-  tries_grow : (route : Route) {asks : H → T → Bool → H → T → Type 0} {left : ℕ} {helper kept : H} {old new : T} {seat after : W} {stopped : Bool}
-      → Tries (GetsChunk means route) (IsInVain means route) (λ asked table answer behind freed. asks asked table answer behind freed × LeavesWriters means table freed)
+  tries_grow : {begins : Bool} (route : Route) {asks : H → T → Bool → H → T → Type 0} {left : ℕ} {helper kept : H} {old new : T} {seat after : W} {stopped : Bool}
+      → Tries (GetsChunk means route) (IsVainTry means route begins) (λ asked table answer behind freed. asks asked table answer behind freed × LeavesWriters means table freed)
       left helper old seat stopped kept new after
       → GrowsOnce route.arbiter.chunks left stopped (means.view old seat) (means.view new after)
   tries_grow route (Gains left helper old seat new after gets) =
       let one = grows_one (means.setup old) route.arbiter.first route.arbiter.chunks gets.chunk (means.view old seat) (means.view new after) gets.claims in
       record { begun = one.0; few = let few = one.1 in omega (arith, few) }
   tries_grow route (Again left helper old seat asking asker answer helped freed stopped kept new after vain helps more) =
-      let one = vain_grows means route old seat asking asker vain in
+      let one = vain_grows means route old seat asking asker vain.vain in
       let rest = tries_grow route more in
-      let same = (helps.1.writers_stay asker vain.step.seat_stays).1 in
+      let same = (helps.1.writers_stay asker vain.vain.step.seat_stays).1 in
       let begun : length (means.view freed asker).begun ≡ length (means.view asking asker).begun = ap (λ (v : WriterView). length v.begun) same in
       let asked : length (means.view freed asker).asked ≡ length (means.view asking asker).asked = ap (λ (v : WriterView). length v.asked) same in
       record {
@@ -97,11 +97,11 @@ module _ {H T W S : Type 0} (means : Meaning T W S) where
         few = omega (arith, one.1, rest.few, asked);
       }
   tries_grow route (Ends helper old seat new after vain) =
-      let one = vain_grows means route old seat new after vain in
+      let one = vain_grows means route old seat new after vain.vain in
       record { begun = omega (arith, one.0); few = omega (arith, one.1) }
 
-  works_grow : (route : Route) {policy : WriterPolicy} {asks : H → T → Bool → H → T → Type 0} {helper left : H} {old new : T} {seat after : W} {stopped : Bool}
-      → Works policy (IsSilent means) (IsQuiet means) (GetsChunk means route) (IsInVain means route) (IsOutNow means route)
+  works_grow : {begins : Bool} (route : Route) {policy : WriterPolicy} {asks : H → T → Bool → H → T → Type 0} {helper left : H} {old new : T} {seat after : W} {stopped : Bool}
+      → Works policy (IsSilent means) (IsQuiet means) (GetsChunk means route) (IsVainTry means route begins) (IsOutNow means route)
       (λ asked table answer behind freed. asks asked table answer behind freed × LeavesWriters means table freed) helper old seat stopped left new after
       → loses policy ≡ true → Grows (rounds_for policy * route.arbiter.chunks) stopped (means.view old seat) (means.view new after)
   works_grow route (Done helper old seat new after last) losing =
@@ -135,8 +135,8 @@ module _ {H T W S : Type 0} (means : Meaning T W S) where
       (subst (λ (p : WriterPolicy). length (means.view mid between).asked ≤ length (means.view old seat).asked + rounds_for p * route.arbiter.chunks) (sym trying) one.few)
       (keeps_long (means.view mid between).begun (means.view new after).begun last.chunks) (ap length last.asked)
 
-  pub works_few : (policy : WriterPolicy) (route : Route) (asks : H → T → Bool → H → T → Type 0) (helper : H) (old : T) (seat : W) (steps : ℕ) (stopped : Bool) (left : H) (new : T) (after : W) (later : ℕ)
-      → Works policy (IsSilent means) (IsQuiet means) (GetsChunk means route) (IsInVain means route) (IsOutNow means route)
+  pub works_few : {begins : Bool} (policy : WriterPolicy) (route : Route) (asks : H → T → Bool → H → T → Type 0) (helper : H) (old : T) (seat : W) (steps : ℕ) (stopped : Bool) (left : H) (new : T) (after : W) (later : ℕ)
+      → Works policy (IsSilent means) (IsQuiet means) (GetsChunk means route) (IsVainTry means route begins) (IsOutNow means route)
       (λ asked table answer behind freed. asks asked table answer behind freed × LeavesWriters means table freed) helper old seat stopped left new after
       → later + (length (means.view old seat).asked + length (means.view old seat).begun) ≡ steps + (length (means.view new after).asked + length (means.view new after).begun) → loses policy ≡ true
       → later ≤ steps + (length (means.view new after).begun - length (means.view old seat).begun) * (rounds_for policy * route.arbiter.chunks + 1)

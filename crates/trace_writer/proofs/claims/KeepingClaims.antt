@@ -18,7 +18,7 @@ use Rattle.trace_writer.specs.declared.route.Route.{Route}
 use Rattle.trace_writer.specs.Asked.{IsAsked}
 use Rattle.trace_writer.specs.Claims.{AreOwnAsks, AreOwnChunks, HasAsked, KeepsClaims}
 use Rattle.trace_writer.specs.Helping.{LeavesWriters, Tries, Gains, Again, Ends, Works, Done, Silent, Gets, Helped, Refused, Lost, Tried, GivesUp, loses}
-use Rattle.trace_writer.specs.OwnSteps.{KeepsChunks, IsQuiet, IsSilent, GetsChunk, IsInVain, IsOutNow}
+use Rattle.trace_writer.specs.OwnSteps.{KeepsChunks, IsQuiet, IsSilent, GetsChunk, IsInVain, IsVainTry, IsOutNow}
 
 -- Lists
 
@@ -170,17 +170,17 @@ module _ {T W S : Type 0} (means : Meaning T W S) where
       }
 
 module _ {H T W S : Type 0} (means : Meaning T W S) (needs : H → T → Type 0) (helps : H → T → ℕ → Bool → H → T → Type 0) where
-  tries_keep : (there : Setup) (producer : ℕ) (route : Route) {asks : H → T → Bool → H → T → Type 0} {left : ℕ} {helper kept_helper : H} {old new : T} {seat after : W} {stopped : Bool}
+  tries_keep : {begins : Bool} (there : Setup) (producer : ℕ) (route : Route) {asks : H → T → Bool → H → T → Type 0} {left : ℕ} {helper kept_helper : H} {old new : T} {seat after : W} {stopped : Bool}
       → range_of there producer ≡ range_in route.arbiter
-      → Tries (GetsChunk means route) (IsInVain means route) (λ asked table answer behind freed. asks asked table answer behind freed × LeavesWriters means table freed)
+      → Tries (GetsChunk means route) (IsVainTry means route begins) (λ asked table answer behind freed. asks asked table answer behind freed × LeavesWriters means table freed)
       left helper old seat stopped kept_helper new after
       → KeepsMost there producer (means.view old seat) → TriesOn there producer stopped (means.view old seat) (means.view new after)
   tries_keep there producer route range (Gains left helper old seat new after gets) kept =
       let found = most_gets there (means.setup old) producer gets.chunk route (means.view old seat) (means.view new after) range gets.claims kept in
       record { kept = found.0; grown = found.1; all = λ stops. absurd (true≢false (sym stops)) }
   tries_keep there producer route range (Again left helper old seat asking asker answer helped freed stopped kept_helper new after vain helps more) kept =
-      let found = most_out means there producer route old seat asking asker range vain kept in
-      let same = (helps.1.writers_stay asker vain.step.seat_stays).1 in
+      let found = most_out means there producer route old seat asking asker range vain.vain kept in
+      let same = (helps.1.writers_stay asker vain.vain.step.seat_stays).1 in
       let rest = tries_keep there producer route range more (subst (λ (v : WriterView). KeepsMost there producer v) (sym same) found.0) in
       record {
         kept = rest.kept;
@@ -188,13 +188,13 @@ module _ {H T W S : Type 0} (means : Meaning T W S) (needs : H → T → Type 0)
         all = rest.all;
       }
   tries_keep there producer route range (Ends helper old seat new after vain) kept =
-      let found = most_out means there producer route old seat new after range vain kept in
+      let found = most_out means there producer route old seat new after range vain.vain kept in
       record { kept = found.0; grown = found.1; all = λ stops. found.2 }
 
-  works_keep : (there : Setup) (producer : ℕ) (route : Route) {policy : WriterPolicy} {asks : H → T → Bool → H → T → Type 0} {helper left : H} {old new : T} {seat after : W} {stopped : Bool}
+  works_keep : {begins : Bool} (there : Setup) (producer : ℕ) (route : Route) {policy : WriterPolicy} {asks : H → T → Bool → H → T → Type 0} {helper left : H} {old new : T} {seat after : W} {stopped : Bool}
       → range_of there producer ≡ range_in route.arbiter
       → Works policy (IsSilent means) (IsQuiet means) (GetsChunk means route)
-      (IsInVain means route) (IsOutNow means route) (λ asked table answer behind freed. asks asked table answer behind freed × LeavesWriters means table freed)
+      (IsVainTry means route begins) (IsOutNow means route) (λ asked table answer behind freed. asks asked table answer behind freed × LeavesWriters means table freed)
       helper old seat stopped left new after
       → KeepsMost there producer (means.view old seat) → KeepsOn policy there producer stopped (means.view old seat) (means.view new after)
   works_keep there producer route range (Done helper old seat new after last) kept = record {
@@ -241,9 +241,9 @@ module _ {H T W S : Type 0} (means : Meaning T W S) (needs : H → T → Type 0)
       }
 
   -- the writer keeps what it has of its claims, if the call loses a packet only where it stops
-  pub claims_kept : (there : Setup) (at : ℕ) (route : Route) (helper : H) (old : T) (seat : W) (steps : ℕ) (stopped : Bool) (noted : List Call) (stalled : Bool) (left : H) (new : T) (after : W) (later : ℕ)
+  pub claims_kept : {begins : Bool} (there : Setup) (at : ℕ) (route : Route) (helper : H) (old : T) (seat : W) (steps : ℕ) (stopped : Bool) (noted : List Call) (stalled : Bool) (left : H) (new : T) (after : W) (later : ℕ)
       → range_of there (producer_of there at) ≡ range_in route.arbiter → slice_get there.writers at ≡ Some route.spec
-      → IsAsked means needs helps route helper old seat steps stopped noted stalled left new after later
+      → IsAsked means needs helps begins route helper old seat steps stopped noted stalled left new after later
       → (lost_count (packets_of (means.view new after).calls) ≡ lost_count (packets_of (means.view old seat).calls)) ⊎ ((loses route.spec.policy ≡ true) × (stopped ≡ true))
       → KeepsClaims there at (means.view old seat) → KeepsClaims there at (means.view new after)
   claims_kept there at route helper old seat steps stopped noted stalled left new after later range own asked lost claims =

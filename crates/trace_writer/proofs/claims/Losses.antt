@@ -12,7 +12,7 @@ use Rattle.claim_arbiter.specs.Claiming.{ClaimsInTurn, lost_asks, range_in}
 use Rattle.trace_writer.specs.declared.route.Route.{Route}
 use Rattle.trace_writer.specs.Helping.{LeavesWriters, Tries, Gains, Again, Ends, Works, Done, Silent, Gets, Helped, Refused, Lost, Tried, GivesUp, loses, rounds_for}
 use Rattle.trace_writer.specs.Losing.{LosesBehind}
-use Rattle.trace_writer.specs.OwnSteps.{IsQuiet, IsSilent, GetsChunk, IsInVain, IsOutNow}
+use Rattle.trace_writer.specs.OwnSteps.{IsQuiet, IsSilent, GetsChunk, IsInVain, IsVainTry, IsOutNow}
 use Rattle.trace_writer.proofs.claims.VainRounds.{HasRounds, one_round, tries_rounds, tries_setup}
 
 -- claims were added, each made when as many calls were noted as before
@@ -110,19 +110,19 @@ module _ {T W S : Type 0} (means : Meaning T W S) where
       subst (λ (v : WriterView). AsksOn (means.view old seat) v) (sym (leaves.writers_stay asker vain.step.seat_stays).1) (on_vain route old seat asking asker vain)
 
 module _ {H T W S : Type 0} (means : Meaning T W S) where
-  on_tries : (route : Route) {asks : H → T → Bool → H → T → Type 0} {left : ℕ} {helper kept : H} {old new : T} {seat after : W} {stopped : Bool}
-      → Tries (GetsChunk means route) (IsInVain means route) (λ asked table answer behind freed. asks asked table answer behind freed × LeavesWriters means table freed)
+  on_tries : {begins : Bool} (route : Route) {asks : H → T → Bool → H → T → Type 0} {left : ℕ} {helper kept : H} {old new : T} {seat after : W} {stopped : Bool}
+      → Tries (GetsChunk means route) (IsVainTry means route begins) (λ asked table answer behind freed. asks asked table answer behind freed × LeavesWriters means table freed)
       left helper old seat stopped kept new after
       → AsksOn (means.view old seat) (means.view new after)
   on_tries route (Gains left helper old seat new after gets) =
       on_gets (means.setup old) route.arbiter.first route.arbiter.chunks gets.chunk (means.view old seat) (means.view new after) gets.claims
   on_tries route (Again left helper old seat asking asker answer helped freed stopped kept new after vain helps more) =
-      on_then (means.view old seat) (means.view freed asker) (means.view new after) (on_help means route old seat asking asker freed vain helps.1) (on_tries route more)
-  on_tries route (Ends helper old seat new after vain) = on_vain means route old seat new after vain
+      on_then (means.view old seat) (means.view freed asker) (means.view new after) (on_help means route old seat asking asker freed vain.vain helps.1) (on_tries route more)
+  on_tries route (Ends helper old seat new after vain) = on_vain means route old seat new after vain.vain
 
   -- a call makes all its claims before it notes itself
-  pub works_now : (route : Route) {policy : WriterPolicy} {asks : H → T → Bool → H → T → Type 0} {helper left : H} {old new : T} {seat after : W} {stopped : Bool}
-      → Works policy (IsSilent means) (IsQuiet means) (GetsChunk means route) (IsInVain means route) (IsOutNow means route)
+  pub works_now : {begins : Bool} (route : Route) {policy : WriterPolicy} {asks : H → T → Bool → H → T → Type 0} {helper left : H} {old new : T} {seat after : W} {stopped : Bool}
+      → Works policy (IsSilent means) (IsQuiet means) (GetsChunk means route) (IsVainTry means route begins) (IsOutNow means route)
       (λ asked table answer behind freed. asks asked table answer behind freed × LeavesWriters means table freed)
       helper old seat stopped left new after
       → AsksNow (means.view old seat) (means.view new after)
@@ -147,8 +147,8 @@ module _ {H T W S : Type 0} (means : Meaning T W S) where
       (asks_none (means.view mid between) (means.view new after) last.asked)
 
   -- one that loses its packet made its last rounds of claims in vain
-  pub works_lose : (route : Route) {policy : WriterPolicy} {asks : H → T → Bool → H → T → Type 0} {helper left : H} {old new : T} {seat after : W} {stopped : Bool}
-      → Works policy (IsSilent means) (IsQuiet means) (GetsChunk means route) (IsInVain means route) (IsOutNow means route)
+  pub works_lose : {begins : Bool} (route : Route) {policy : WriterPolicy} {asks : H → T → Bool → H → T → Type 0} {helper left : H} {old new : T} {seat after : W} {stopped : Bool}
+      → Works policy (IsSilent means) (IsQuiet means) (GetsChunk means route) (IsVainTry means route begins) (IsOutNow means route)
       (λ asked table answer behind freed. asks asked table answer behind freed × LeavesWriters means table freed)
       helper old seat stopped left new after
       → stopped ≡ true → loses policy ≡ true

@@ -16,7 +16,7 @@ use Rattle.trace_writer.proofs.claims.Working.{work_gets, work_lost, work_then}
 
 module _ {H T W S : Type 0} (means : Meaning T W S) (needs : H → T → Type 0) (helps : H → T → ℕ → Bool → H → T → Type 0) where
   -- a writer that drops, and holds no chunk
-  pub round_work : (route : Route) (helper : H) (old : T) (seat : W) (steps id : ℕ) (new : T) (after : W) (later : ℕ) (answer : Option HeldToken)
+  pub round_work : {begins : Bool} (route : Route) (helper : H) (old : T) (seat : W) (steps id : ℕ) (new : T) (after : W) (later : ℕ) (answer : Option HeldToken)
       → ((helper : H) (old new : T) (seat after : W) → IsWriterStep means old seat new after → needs helper old → needs helper new)
       → needs helper old → route.spec.policy ≡ Drops → NoneHeld (means.view old seat).begun → IsWriterStep means old seat new after
       → IfSome answer (λ held. ClaimsInTurn (means.setup old) route.arbiter.first route.arbiter.chunks held.chunk (means.view old seat) (means.view new after))
@@ -27,7 +27,7 @@ module _ {H T W S : Type 0} (means : Meaning T W S) (needs : H → T → Type 0)
       → IfNone answer (later ≡ steps + route.arbiter.chunks)
       → IfNone answer ((world : World) → means.told old ≡ Some world → NoneFree world route.arbiter.first (route.arbiter.first + route.arbiter.chunks)
       × (means.told new ≡ Some (with_writer_view world (means.place seat) (means.view new after))))
-      → IsWork means needs helps route helper old seat steps (not (is_some answer)) helper new after later
+      → IsWork means needs helps begins route helper old seat steps (not (is_some answer)) helper new after later
   round_work route helper old seat steps id new after later (Some held) keeps needed drops none step won steps_won told_won lost steps_lost told_lost =
       work_gets means needs helps route helper old seat steps new after later keeps needed
       (gets_chunk means route held.chunk id old seat new after step won told_won)
@@ -38,11 +38,11 @@ module _ {H T W S : Type 0} (means : Meaning T W S) (needs : H → T → Type 0)
       (lost_counts (means.setup old) route.arbiter.first route.arbiter.chunks (means.view old seat) (means.view new after) steps later lost steps_lost)
 
   -- and one that was writing
-  pub round_is_work : (route : Route) (helper : H) (old : T) (seat : W) (steps : ℕ) (stopped : Bool) (new : T) (after : W) (later : ℕ)
+  pub round_is_work : {begins : Bool} (route : Route) (helper : H) (old : T) (seat : W) (steps : ℕ) (stopped : Bool) (new : T) (after : W) (later : ℕ)
       → ((helper : H) (old new : T) (seat after : W) → IsWriterStep means old seat new after → needs helper old → needs helper new)
       → needs helper old → route.spec.policy ≡ Drops → MakesRound means route stopped old seat new after
       → later + (length (means.view old seat).asked + length (means.view old seat).begun) ≡ steps + (length (means.view new after).asked + length (means.view new after).begun)
-      → IsWork means needs helps route helper old seat steps stopped helper new after later
+      → IsWork means needs helps begins route helper old seat steps stopped helper new after later
   round_is_work route helper old seat steps false new after later keeps needed drops round counts =
       let mid = round.0 in let between = round.1 in let gets = round.2 in let silent = round.3 in
       let asks = ap length silent.quiet.asked in let chunks = keeps_long (means.view mid between).begun (means.view new after).begun silent.quiet.chunks in

@@ -9,7 +9,7 @@ use Rattle.chunk_plain.specs.Meaning.{Meaning}
 use Rattle.claim_arbiter.specs.Claiming.{AllClaimed, lost_asks}
 use Rattle.trace_writer.specs.declared.route.Route.{Route}
 use Rattle.trace_writer.specs.Helping.{LeavesWriters, Tries, Gains, Again, Ends}
-use Rattle.trace_writer.specs.OwnSteps.{GetsChunk, IsInVain}
+use Rattle.trace_writer.specs.OwnSteps.{GetsChunk, IsInVain, IsVainTry}
 
 -- so many full rounds of claims in vain, one behind the other, with no call noted among them
 pub record HasRounds (setup : Setup) (route : Route) (many : ℕ) (old new : WriterView) : Type 0 where
@@ -54,24 +54,24 @@ module _ {T W S : Type 0} (means : Meaning T W S) where
       (no_round (means.setup old) route (means.view new after))
 
 module _ {H T W S : Type 0} (means : Meaning T W S) where
-  pub tries_rounds : (route : Route) {asks : H → T → Bool → H → T → Type 0} {left : ℕ} {helper kept : H} {old new : T} {seat after : W} {stopped : Bool}
-      → Tries (GetsChunk means route) (IsInVain means route) (λ asked table answer behind freed. asks asked table answer behind freed × LeavesWriters means table freed)
+  pub tries_rounds : {begins : Bool} (route : Route) {asks : H → T → Bool → H → T → Type 0} {left : ℕ} {helper kept : H} {old new : T} {seat after : W} {stopped : Bool}
+      → Tries (GetsChunk means route) (IsVainTry means route begins) (λ asked table answer behind freed. asks asked table answer behind freed × LeavesWriters means table freed)
       left helper old seat stopped kept new after
       → stopped ≡ true → HasRounds (means.setup old) route (suc left) (means.view old seat) (means.view new after)
   tries_rounds route (Gains left helper old seat new after gets) stops = absurd (true≢false (sym stops))
   tries_rounds route (Again left helper old seat asking asker answer helped freed stopped kept new after vain helps more) stops =
       let rest = tries_rounds route more stops in
-      let same = (helps.1.writers_stay asker vain.step.seat_stays).1 in
-      round_first (means.setup old) route (suc left) vain.words (means.view old seat) (means.view asking asker) (means.view new after) vain.count_is vain.all_claimed vain.asked vain.calls
+      let same = (helps.1.writers_stay asker vain.vain.step.seat_stays).1 in
+      round_first (means.setup old) route (suc left) vain.vain.words (means.view old seat) (means.view asking asker) (means.view new after) vain.vain.count_is vain.vain.all_claimed vain.vain.asked vain.vain.calls
       (subst (λ (v : WriterView). HasRounds (means.setup old) route (suc left) v (means.view new after)) same
-      (subst (λ (s : Setup). HasRounds s route (suc left) (means.view freed asker) (means.view new after)) (helps.1.setup_stays ∙ vain.step.setup_stays) rest))
-  tries_rounds route (Ends helper old seat new after vain) stops = one_round means route old seat new after vain
+      (subst (λ (s : Setup). HasRounds s route (suc left) (means.view freed asker) (means.view new after)) (helps.1.setup_stays ∙ vain.vain.step.setup_stays) rest))
+  tries_rounds route (Ends helper old seat new after vain) stops = one_round means route old seat new after vain.vain
 
-  pub tries_setup : (route : Route) {asks : H → T → Bool → H → T → Type 0} {left : ℕ} {helper kept : H} {old new : T} {seat after : W} {stopped : Bool}
-      → Tries (GetsChunk means route) (IsInVain means route) (λ asked table answer behind freed. asks asked table answer behind freed × LeavesWriters means table freed)
+  pub tries_setup : {begins : Bool} (route : Route) {asks : H → T → Bool → H → T → Type 0} {left : ℕ} {helper kept : H} {old new : T} {seat after : W} {stopped : Bool}
+      → Tries (GetsChunk means route) (IsVainTry means route begins) (λ asked table answer behind freed. asks asked table answer behind freed × LeavesWriters means table freed)
       left helper old seat stopped kept new after
       → means.setup new ≡ means.setup old
   tries_setup route (Gains left helper old seat new after gets) = gets.step.setup_stays
   tries_setup route (Again left helper old seat asking asker answer helped freed stopped kept new after vain helps more) =
-      tries_setup route more ∙ helps.1.setup_stays ∙ vain.step.setup_stays
-  tries_setup route (Ends helper old seat new after vain) = vain.step.setup_stays
+      tries_setup route more ∙ helps.1.setup_stays ∙ vain.vain.step.setup_stays
+  tries_setup route (Ends helper old seat new after vain) = vain.vain.step.setup_stays

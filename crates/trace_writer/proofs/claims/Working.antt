@@ -8,7 +8,7 @@ use Rattle.chunk_plain.specs.Views.{WriterView}
 use Rattle.chunk_plain.specs.Meaning.{Meaning, IsWriterStep}
 use Rattle.chunk_plain.proofs.SeatSteps.{stays, steps_follow}
 use Rattle.trace_writer.specs.declared.route.Route.{Route}
-use Rattle.trace_writer.specs.OwnSteps.{IsQuiet, IsSilent, GetsChunk, IsInVain, IsOutNow}
+use Rattle.trace_writer.specs.OwnSteps.{IsQuiet, IsSilent, GetsChunk, IsVainTry, IsOutNow}
 use Rattle.trace_writer.specs.Asked.{IsAsked}
 use Rattle.trace_writer.specs.Helping.{LeavesWriters, LeavesOthers, Works, Done, Silent, Gets, Helped, Refused, Lost, Tried, GivesUp, IsWork, refuses}
 use Rattle.trace_writer.proofs.claims.FewSteps.{works_few}
@@ -48,11 +48,11 @@ module _ {H T W S : Type 0} (means : Meaning T W S) (needs : H → T → Type 0)
   -- Parts in a row
 
   module _ (policy : WriterPolicy) (route : Route) (asks : H → T → Bool → H → T → Type 0) where
-    works_both : {helper middle : H} {old mid : T} {before between : W} {first : Bool} (stopped : Bool) (left : H) (new : T) (after : W)
-        → Works policy (IsSilent means) (IsSilent means) (GetsChunk means route) (IsInVain means route) (IsOutNow means route) asks helper old before first middle mid between
+    works_both : {begins : Bool} {helper middle : H} {old mid : T} {before between : W} {first : Bool} (stopped : Bool) (left : H) (new : T) (after : W)
+        → Works policy (IsSilent means) (IsSilent means) (GetsChunk means route) (IsVainTry means route begins) (IsOutNow means route) asks helper old before first middle mid between
         → first ≡ false
-        → Works policy (IsSilent means) (IsSilent means) (GetsChunk means route) (IsInVain means route) (IsOutNow means route) asks middle mid between stopped left new after
-        → Works policy (IsSilent means) (IsSilent means) (GetsChunk means route) (IsInVain means route) (IsOutNow means route) asks helper old before stopped left new after
+        → Works policy (IsSilent means) (IsSilent means) (GetsChunk means route) (IsVainTry means route begins) (IsOutNow means route) asks middle mid between stopped left new after
+        → Works policy (IsSilent means) (IsSilent means) (GetsChunk means route) (IsVainTry means route begins) (IsOutNow means route) asks helper old before stopped left new after
     works_both stopped left new after (Done helper old before mid between last) none rest = Silent helper old before mid between stopped left new after last rest
     works_both stopped left new after (Silent helper old before next moved first middle mid between silent more) none rest =
         Silent helper old before next moved stopped left new after silent (works_both stopped left new after more none rest)
@@ -67,10 +67,10 @@ module _ {H T W S : Type 0} (means : Meaning T W S) (needs : H → T → Type 0)
     works_both stopped left new after (GivesUp helper old before tries middle out_table out_seat mid between trying tried last) none rest = absurd (true≢false none)
 
     -- silent steps come last
-    works_then : {helper left : H} {old mid : T} {before between : W} {stopped : Bool} (new : T) (after : W)
-        → Works policy (IsSilent means) (IsSilent means) (GetsChunk means route) (IsInVain means route) (IsOutNow means route) asks helper old before stopped left mid between
+    works_then : {begins : Bool} {helper left : H} {old mid : T} {before between : W} {stopped : Bool} (new : T) (after : W)
+        → Works policy (IsSilent means) (IsSilent means) (GetsChunk means route) (IsVainTry means route begins) (IsOutNow means route) asks helper old before stopped left mid between
         → IsSilent means mid between new after
-        → Works policy (IsSilent means) (IsSilent means) (GetsChunk means route) (IsInVain means route) (IsOutNow means route) asks helper old before stopped left new after
+        → Works policy (IsSilent means) (IsSilent means) (GetsChunk means route) (IsVainTry means route begins) (IsOutNow means route) asks helper old before stopped left new after
     works_then new after (Done helper old before mid between last) silent =
         Done helper old before new after (silent_both means old before mid between new after last silent)
     works_then new after (Silent helper old before next moved stopped left mid between first more) silent =
@@ -89,10 +89,10 @@ module _ {H T W S : Type 0} (means : Meaning T W S) (needs : H → T → Type 0)
         GivesUp helper old before tries left out_table out_seat new after trying tried (silent_both means out_table out_seat mid between new after last silent)
 
     -- or those that note the call
-    works_last : {helper left : H} {old mid : T} {before between : W} {stopped : Bool} (new : T) (after : W)
-        → Works policy (IsSilent means) (IsSilent means) (GetsChunk means route) (IsInVain means route) (IsOutNow means route) asks helper old before stopped left mid between
+    works_last : {begins : Bool} {helper left : H} {old mid : T} {before between : W} {stopped : Bool} (new : T) (after : W)
+        → Works policy (IsSilent means) (IsSilent means) (GetsChunk means route) (IsVainTry means route begins) (IsOutNow means route) asks helper old before stopped left mid between
         → IsQuiet means mid between new after
-        → Works policy (IsSilent means) (IsQuiet means) (GetsChunk means route) (IsInVain means route) (IsOutNow means route) asks helper old before stopped left new after
+        → Works policy (IsSilent means) (IsQuiet means) (GetsChunk means route) (IsVainTry means route begins) (IsOutNow means route) asks helper old before stopped left new after
     works_last new after (Done helper old before mid between last) quiet =
         Done helper old before new after (quiet_both means old before mid between new after last.quiet quiet)
     works_last new after (Silent helper old before next moved stopped left mid between first more) quiet =
@@ -116,8 +116,8 @@ module _ {H T W S : Type 0} (means : Meaning T W S) (needs : H → T → Type 0)
       let asks = ap length quiet.asked in let chunks = keeps_long (means.view old seat).begun (means.view new after).begun quiet.chunks in omega (arith, asks, chunks)
 
   -- nothing was done
-  pub work_none : (route : Route) (helper : H) (table : T) (seat : W) (steps : ℕ) → means.sits table seat → needs helper table
-      → IsWork means needs helps route helper table seat steps false helper table seat steps
+  pub work_none : {begins : Bool} (route : Route) (helper : H) (table : T) (seat : W) (steps : ℕ) → means.sits table seat → needs helper table
+      → IsWork means needs helps begins route helper table seat steps false helper table seat steps
   work_none route helper table seat steps there needed = record {
     others = leaves_own table seat table seat (stays means table seat there);
     works = Done helper table seat table seat (silent_none means table seat there);
@@ -125,10 +125,10 @@ module _ {H T W S : Type 0} (means : Meaning T W S) (needs : H → T → Type 0)
     counts = refl;
   }
 
-  pub work_behind : (route : Route) (helper : H) (old : T) (before : W) (steps : ℕ) (middle : H) (mid : T) (between : W) (half : ℕ) (stopped : Bool) (left : H) (new : T) (after : W) (later : ℕ)
-      → IsWork means needs helps route helper old before steps false middle mid between half
-      → IsWork means needs helps route middle mid between half stopped left new after later
-      → IsWork means needs helps route helper old before steps stopped left new after later
+  pub work_behind : {begins : Bool} (route : Route) (helper : H) (old : T) (before : W) (steps : ℕ) (middle : H) (mid : T) (between : W) (half : ℕ) (stopped : Bool) (left : H) (new : T) (after : W) (later : ℕ)
+      → IsWork means needs helps begins route helper old before steps false middle mid between half
+      → IsWork means needs helps begins route middle mid between half stopped left new after later
+      → IsWork means needs helps begins route helper old before steps stopped left new after later
   work_behind route helper old before steps middle mid between half stopped left new after later one two = record {
     others = leaves_both old before mid between new after one.others two.others;
     works = works_both route.spec.policy route (λ asked table answer behind freed. helps asked table route.spec.producer answer behind freed × LeavesWriters means table freed)
@@ -138,10 +138,10 @@ module _ {H T W S : Type 0} (means : Meaning T W S) (needs : H → T → Type 0)
   }
 
   -- silent steps come first
-  pub work_before : (route : Route) (helper : H) (old : T) (before : W) (steps : ℕ) (mid : T) (between : W) (stopped : Bool) (left : H) (new : T) (after : W) (later : ℕ)
+  pub work_before : {begins : Bool} (route : Route) (helper : H) (old : T) (before : W) (steps : ℕ) (mid : T) (between : W) (stopped : Bool) (left : H) (new : T) (after : W) (later : ℕ)
       → IsSilent means old before mid between
-      → IsWork means needs helps route helper mid between steps stopped left new after later
-      → IsWork means needs helps route helper old before steps stopped left new after later
+      → IsWork means needs helps begins route helper mid between steps stopped left new after later
+      → IsWork means needs helps begins route helper old before steps stopped left new after later
   work_before route helper old before steps mid between stopped left new after later silent two = record {
     others = leaves_both old before mid between new after (leaves_own old before mid between silent.quiet.step) two.others;
     works = Silent helper old before mid between stopped left new after silent two.works;
@@ -150,11 +150,11 @@ module _ {H T W S : Type 0} (means : Meaning T W S) (needs : H → T → Type 0)
   }
 
   -- or last
-  pub work_then : (route : Route) (helper : H) (old : T) (before : W) (steps : ℕ) (stopped : Bool) (left : H) (mid : T) (between : W) (later : ℕ) (new : T) (after : W)
+  pub work_then : {begins : Bool} (route : Route) (helper : H) (old : T) (before : W) (steps : ℕ) (stopped : Bool) (left : H) (mid : T) (between : W) (later : ℕ) (new : T) (after : W)
       → ((helper : H) (old new : T) (seat after : W) → IsWriterStep means old seat new after → needs helper old → needs helper new)
-      → IsWork means needs helps route helper old before steps stopped left mid between later
+      → IsWork means needs helps begins route helper old before steps stopped left mid between later
       → IsSilent means mid between new after
-      → IsWork means needs helps route helper old before steps stopped left new after later
+      → IsWork means needs helps begins route helper old before steps stopped left new after later
   work_then route helper old before steps stopped left mid between later new after keeps one silent = record {
     others = leaves_both old before mid between new after one.others (leaves_own mid between new after silent.quiet.step);
     works = works_then route.spec.policy route (λ asked table answer behind freed. helps asked table route.spec.producer answer behind freed × LeavesWriters means table freed)
@@ -164,11 +164,11 @@ module _ {H T W S : Type 0} (means : Meaning T W S) (needs : H → T → Type 0)
   }
 
   -- a chunk was claimed and begun
-  pub work_gets : (route : Route) (helper : H) (old : T) (seat : W) (steps : ℕ) (new : T) (after : W) (later : ℕ)
+  pub work_gets : {begins : Bool} (route : Route) (helper : H) (old : T) (seat : W) (steps : ℕ) (new : T) (after : W) (later : ℕ)
       → ((helper : H) (old new : T) (seat after : W) → IsWriterStep means old seat new after → needs helper old → needs helper new)
       → needs helper old → GetsChunk means route old seat new after
       → later + (length (means.view old seat).asked + length (means.view old seat).begun) ≡ steps + (length (means.view new after).asked + length (means.view new after).begun)
-      → IsWork means needs helps route helper old seat steps false helper new after later
+      → IsWork means needs helps begins route helper old seat steps false helper new after later
   work_gets route helper old seat steps new after later keeps needed gets counts = record {
     others = leaves_own old seat new after gets.step;
     works = Gets helper old seat new after false helper new after gets (Done helper new after new after (silent_none means new after gets.step.seat_stays));
@@ -177,11 +177,11 @@ module _ {H T W S : Type 0} (means : Meaning T W S) (needs : H → T → Type 0)
   }
 
   -- the writer asked for a help that freed a chunk
-  pub work_helped : (route : Route) (helper : H) (old : T) (seat : W) (steps : ℕ) (asking : T) (asker : W) (later : ℕ) (helped : H) (freed : T)
+  pub work_helped : {begins : Bool} (route : Route) (helper : H) (old : T) (seat : W) (steps : ℕ) (asking : T) (asker : W) (later : ℕ) (helped : H) (freed : T)
       → route.spec.policy ≡ Stalls → IsOutNow means route old seat asking asker
       → helps helper asking route.spec.producer true helped freed → LeavesWriters means asking freed → needs helped freed
       → later + (length (means.view old seat).asked + length (means.view old seat).begun) ≡ steps + (length (means.view asking asker).asked + length (means.view asking asker).begun)
-      → IsWork means needs helps route helper old seat steps false helped freed asker later
+      → IsWork means needs helps begins route helper old seat steps false helped freed asker later
   work_helped route helper old seat steps asking asker later helped freed stalls out helps_ leaves needed counts = record {
     others = leaves_both old seat asking asker freed asker (leaves_own old seat asking asker out.vain.step) (leaves_help asking asker freed out.vain.step.seat_stays leaves);
     works = Helped helper old seat asking asker helped freed false helped freed asker stalls out (helps_, leaves)
@@ -192,11 +192,11 @@ module _ {H T W S : Type 0} (means : Meaning T W S) (needs : H → T → Type 0)
   }
 
   -- or for one that freed none
-  pub work_refused : (route : Route) (helper : H) (old : T) (seat : W) (steps : ℕ) (asking : T) (asker : W) (later : ℕ) (left : H) (new : T)
+  pub work_refused : {begins : Bool} (route : Route) (helper : H) (old : T) (seat : W) (steps : ℕ) (asking : T) (asker : W) (later : ℕ) (left : H) (new : T)
       → route.spec.policy ≡ Stalls → IsOutNow means route old seat asking asker
       → helps helper asking route.spec.producer false left new → LeavesWriters means asking new → needs left new
       → later + (length (means.view old seat).asked + length (means.view old seat).begun) ≡ steps + (length (means.view asking asker).asked + length (means.view asking asker).begun)
-      → IsWork means needs helps route helper old seat steps true left new asker later
+      → IsWork means needs helps begins route helper old seat steps true left new asker later
   work_refused route helper old seat steps asking asker later left new stalls out helps_ leaves needed counts = record {
     others = leaves_both old seat asking asker new asker (leaves_own old seat asking asker out.vain.step) (leaves_help asking asker new out.vain.step.seat_stays leaves);
     works = Refused helper old seat asking asker left new new asker stalls out (helps_, leaves) (silent_none means new asker (leaves.writers_stay asker out.vain.step.seat_stays).0);
@@ -206,11 +206,11 @@ module _ {H T W S : Type 0} (means : Meaning T W S) (needs : H → T → Type 0)
   }
 
   -- a writer that drops has lost its packet
-  pub work_lost : (route : Route) (helper : H) (old : T) (seat : W) (steps : ℕ) (new : T) (after : W) (later : ℕ)
+  pub work_lost : {begins : Bool} (route : Route) (helper : H) (old : T) (seat : W) (steps : ℕ) (new : T) (after : W) (later : ℕ)
       → ((helper : H) (old new : T) (seat after : W) → IsWriterStep means old seat new after → needs helper old → needs helper new)
       → needs helper old → route.spec.policy ≡ Drops → IsOutNow means route old seat new after
       → later + (length (means.view old seat).asked + length (means.view old seat).begun) ≡ steps + (length (means.view new after).asked + length (means.view new after).begun)
-      → IsWork means needs helps route helper old seat steps true helper new after later
+      → IsWork means needs helps begins route helper old seat steps true helper new after later
   work_lost route helper old seat steps new after later keeps needed drops out counts = record {
     others = leaves_own old seat new after out.vain.step;
     works = Lost helper old seat new after new after drops out (silent_none means new after out.vain.step.seat_stays);
@@ -220,12 +220,12 @@ module _ {H T W S : Type 0} (means : Meaning T W S) (needs : H → T → Type 0)
 
   -- A call, behind which it is noted
 
-  pub asked_of : (route : Route) (helper : H) (old : T) (before : W) (steps : ℕ) (stopped : Bool) (noted : List Call) (stalled : Bool) (left : H) (mid : T) (between : W) (later : ℕ) (new : T) (after : W)
+  pub asked_of : {begins : Bool} (route : Route) (helper : H) (old : T) (before : W) (steps : ℕ) (stopped : Bool) (noted : List Call) (stalled : Bool) (left : H) (mid : T) (between : W) (later : ℕ) (new : T) (after : W)
       → ((helper : H) (old new : T) (seat after : W) → IsWriterStep means old seat new after → needs helper old → needs helper new)
-      → IsWork means needs helps route helper old before steps stopped left mid between later
+      → IsWork means needs helps begins route helper old before steps stopped left mid between later
       → IsQuiet means mid between new after
       → (means.view new after).calls ≡ (means.view old before).calls ++ noted → stalled ≡ refuses route.spec.policy stopped
-      → IsAsked means needs helps route helper old before steps stopped noted stalled left new after later
+      → IsAsked means needs helps begins route helper old before steps stopped noted stalled left new after later
   asked_of route helper old before steps stopped noted stalled left mid between later new after keeps one quiet notes stalls =
       let works = works_last route.spec.policy route (λ asked table answer behind freed. helps asked table route.spec.producer answer behind freed × LeavesWriters means table freed)
       new after one.works quiet in
@@ -242,22 +242,22 @@ module _ {H T W S : Type 0} (means : Meaning T W S) (needs : H → T → Type 0)
       }
 
   -- the call was noted alone
-  pub asked_alone : (route : Route) (helper : H) (old : T) (seat : W) (steps : ℕ) (noted : List Call) (stalled : Bool) (new : T) (after : W) → means.sits old seat
+  pub asked_alone : {begins : Bool} (route : Route) (helper : H) (old : T) (seat : W) (steps : ℕ) (noted : List Call) (stalled : Bool) (new : T) (after : W) → means.sits old seat
       → ((helper : H) (old new : T) (seat after : W) → IsWriterStep means old seat new after → needs helper old → needs helper new)
       → needs helper old → IsQuiet means old seat new after
       → (means.view new after).calls ≡ (means.view old seat).calls ++ noted → stalled ≡ refuses route.spec.policy false
-      → IsAsked means needs helps route helper old seat steps false noted stalled helper new after steps
+      → IsAsked means needs helps begins route helper old seat steps false noted stalled helper new after steps
   asked_alone route helper old seat steps noted stalled new after there keeps needed quiet notes stalls =
       asked_of route helper old seat steps false noted stalled helper old seat steps new after keeps (work_none route helper old seat steps there needed) quiet notes stalls
 
   -- a writer that drops asks for no help
-  pub asked_drops : (route : Route) (helper : H) (old : T) (seat : W) (steps : ℕ) (stopped : Bool) (noted : List Call) (stalled : Bool) (left : H) (new : T) (after : W) (later : ℕ) → means.sits old seat
-      → IsAsked means needs helps route helper old seat steps stopped noted stalled left new after later → route.spec.policy ≡ Drops
+  pub asked_drops : {begins : Bool} (route : Route) (helper : H) (old : T) (seat : W) (steps : ℕ) (stopped : Bool) (noted : List Call) (stalled : Bool) (left : H) (new : T) (after : W) (later : ℕ) → means.sits old seat
+      → IsAsked means needs helps begins route helper old seat steps stopped noted stalled left new after later → route.spec.policy ≡ Drops
       → (left ≡ helper) × IsWriterStep means old seat new after
   asked_drops route helper old seat steps stopped noted stalled left new after later there asked drops = alone there asked.works
     where
-      alone : {helper left : H} {old new : T} {seat after : W} {stopped : Bool} → means.sits old seat
-          → Works route.spec.policy (IsSilent means) (IsQuiet means) (GetsChunk means route) (IsInVain means route) (IsOutNow means route)
+      alone : {begins : Bool} {helper left : H} {old new : T} {seat after : W} {stopped : Bool} → means.sits old seat
+          → Works route.spec.policy (IsSilent means) (IsQuiet means) (GetsChunk means route) (IsVainTry means route begins) (IsOutNow means route)
           (λ asked table answer behind freed. helps asked table route.spec.producer answer behind freed × LeavesWriters means table freed)
           helper old seat stopped left new after
           → (left ≡ helper) × IsWriterStep means old seat new after

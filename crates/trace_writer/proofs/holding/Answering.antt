@@ -23,7 +23,7 @@ use Rattle.trace_writer.specs.Core.{WriterAgrees}
 use Rattle.trace_writer.specs.Empty.{is_empty}
 use Rattle.trace_writer.specs.Helping.{LeavesWriters, Tries, Gains, Again, Ends, Works, Done, Silent, Gets, Helped, Refused, Lost, Tried, GivesUp}
 use Rattle.trace_writer.specs.Outcomes.{held_images, held_patches}
-use Rattle.trace_writer.specs.OwnSteps.{KeepsChunks, NoneHeld, IsQuiet, IsSilent, GetsChunk, IsInVain, IsOutNow}
+use Rattle.trace_writer.specs.OwnSteps.{KeepsChunks, NoneHeld, IsQuiet, IsSilent, GetsChunk, IsInVain, IsVainTry, IsOutNow}
 use Rattle.trace_writer.specs.Site.{site_of}
 use Rattle.trace_writer.proofs.accounts.CutLaws as laws
 use Rattle.trace_writer.proofs.holding.KeptChunks.{shown_none_held}
@@ -71,19 +71,19 @@ module _ {H T W S : Type 0} (means : Meaning T W S) (route : Route) (helps : H �
       keeps_on (begun old seat) (begun asking asker) (begun new after) (quiet_keeps (begun old seat) (begun asking asker) vain.chunks)
       (subst (λ (v : WriterView). KeepsCompleted v.begun (begun new after)) (leaves.writers_stay asker vain.step.seat_stays).1 more)
 
-  tries_keep : {left : ℕ} {helper kept : H} {old new : T} {seat after : W} {stopped : Bool}
-      → Tries (GetsChunk means route) (IsInVain means route)
+  tries_keep : {begins : Bool} {left : ℕ} {helper kept : H} {old new : T} {seat after : W} {stopped : Bool}
+      → Tries (GetsChunk means route) (IsVainTry means route begins)
       (λ asked table answer behind freed. helps asked table route.spec.producer answer behind freed × LeavesWriters means table freed)
       left helper old seat stopped kept new after
       → KeepsCompleted (begun old seat) (begun new after)
   tries_keep (Gains left helper old seat new after gets) = got_keeps old seat new after gets
   tries_keep (Again left helper old seat asking asker answer helped freed stopped kept new after vain helped_it more) =
-      helped_keeps old seat asking asker freed new after vain helped_it.1 (tries_keep more)
-  tries_keep (Ends helper old seat new after vain) = quiet_keeps (begun old seat) (begun new after) vain.chunks
+      helped_keeps old seat asking asker freed new after vain.vain helped_it.1 (tries_keep more)
+  tries_keep (Ends helper old seat new after vain) = quiet_keeps (begun old seat) (begun new after) vain.vain.chunks
 
   -- whatever a writer does for a call, with the helps that it asks for
-  pub works_keep_completed : {policy : WriterPolicy} {helper left : H} {old new : T} {seat after : W} {stopped : Bool}
-      → Works policy (IsSilent means) (IsQuiet means) (GetsChunk means route) (IsInVain means route) (IsOutNow means route)
+  pub works_keep_completed : {begins : Bool} {policy : WriterPolicy} {helper left : H} {old new : T} {seat after : W} {stopped : Bool}
+      → Works policy (IsSilent means) (IsQuiet means) (GetsChunk means route) (IsVainTry means route begins) (IsOutNow means route)
       (λ asked table answer behind freed. helps asked table route.spec.producer answer behind freed × LeavesWriters means table freed)
       helper old seat stopped left new after
       → KeepsCompleted (begun old seat) (begun new after)

@@ -232,7 +232,7 @@ pub record HasFound {H T W S : Type 0} (means : Meaning T W S) (needs : H → T 
   pub route_is : writer.route ≡ before.route
   pub calls : (means.view new after).calls ≡ (means.view old seat).calls
   pub at : IsPlace (site_of (means.setup old) (means.place seat) before.route) (account_of (means.view old seat).calls) (means.view new after) writer.pending found
-  pub work : IsWork means needs helps before.route helper old seat steps (not (is_behind found)) left new after later
+  pub work : IsWork means needs helps true before.route helper old seat steps (not (is_behind found)) left new after later
 
 module _ {H T W S : Type 0} {means : Meaning T W S} {needs : H → T → Type 0} {helps : H → T → ℕ → Bool → H → T → Type 0}
     {before : Writer} {helper : H} {old : T} {seat : W} {steps : ℕ} where
@@ -265,11 +265,11 @@ module _ {H T W S : Type 0} {means : Meaning T W S} {needs : H → T → Type 0}
         → HasFound means needs helps before helper old seat steps writer left mid between later found
         → BeginsAt writer.route.spec.policy found result (means.view mid between).calls (means.view new after).calls state
         → IsQuiet means mid between new after
-        → IsAsked means needs helps before.route helper old seat steps (stops_with result) (begun_as (stops_with result) before.route.spec.policy)
+        → IsAsked means needs helps true before.route helper old seat steps (stops_with result) (begun_as (stops_with result) before.route.spec.policy)
         (is_stalled state) left new after later
     found_asked new after state result keeps has at quiet =
         let begins = subst (λ (r : Route). BeginsAt r.spec.policy found result (means.view mid between).calls (means.view new after).calls state) has.route_is at in
-        subst (λ (stopped : Bool). IsAsked means needs helps before.route helper old seat steps stopped (begun_as stopped before.route.spec.policy)
+        subst (λ (stopped : Bool). IsAsked means needs helps true before.route helper old seat steps stopped (begun_as stopped before.route.spec.policy)
         (is_stalled state) left new after later) (sym begins.stops)
         (asked_of means needs helps before.route helper old seat steps (not (is_behind found)) (begun_as (not (is_behind found)) before.route.spec.policy)
         (is_stalled state) left mid between later new after keeps has.work quiet

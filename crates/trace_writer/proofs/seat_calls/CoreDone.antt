@@ -103,7 +103,7 @@ module _ {H T W S : Type 0} (means : Meaning T W S) (needs : H → T → Type 0)
       )
 
       goes_on : (stopped : Bool)
-          × IsAsked means needs helps core.writer.route helper old core.seat steps stopped (written_as stopped core.writer.route.spec.policy call)
+          × IsAsked means needs helps false core.writer.route helper old core.seat steps stopped (written_as stopped core.writer.route.spec.policy call)
           (is_stalled after) left new after.seat later
           × (stopped ≡ true → newest_is_lost (packets_of (means.view old core.seat).calls) ≡ false)
           → CoreLeft means needs helper old core left new after × (in_packet (means.view new after.seat) ≡ true)
@@ -157,7 +157,7 @@ module _ {H T W S : Type 0} (means : Meaning T W S) (needs : H → T → Type 0)
       → Agrees (means.setup old) (means.place core.seat) (means.view new after.seat) after.writer
       → (is_stalled core ≡ true → (after ≡ core) × (new ≡ old) × (left ≡ helper))
       → (is_stalled core ≡ false
-      → IsAsked means needs helps core.writer.route helper old core.seat steps stopped (begun_as stopped core.writer.route.spec.policy)
+      → IsAsked means needs helps true core.writer.route helper old core.seat steps stopped (begun_as stopped core.writer.route.spec.policy)
       (is_stalled after) left new after.seat later)
       → CoreLeft means needs helper old core left new after
   left_begun helper old core steps stopped left new after later there needed ok none agrees waits done =
@@ -166,7 +166,7 @@ module _ {H T W S : Type 0} (means : Meaning T W S) (needs : H → T → Type 0)
       same : (after ≡ core) × (new ≡ old) × (left ≡ helper) → CoreLeft means needs helper old core left new after
       same is = left_stays helper old core left new after there needed ok is.0 is.1 is.2
 
-      goes_on : IsAsked means needs helps core.writer.route helper old core.seat steps stopped (begun_as stopped core.writer.route.spec.policy)
+      goes_on : IsAsked means needs helps true core.writer.route helper old core.seat steps stopped (begun_as stopped core.writer.route.spec.policy)
           (is_stalled after) left new after.seat later
           → CoreLeft means needs helper old core left new after
       goes_on d =
@@ -190,7 +190,7 @@ module _ {H T W S : Type 0} (means : Meaning T W S) (needs : H → T → Type 0)
       → (is_stalled core ≡ true → answer ≡ Err fault_of.Stalled)
       → (is_stalled core ≡ false → MatchResult answer (λ _. is_stalled after ≡ false) (λ fault. (fault ≡ fault_of.Stalled) × (is_stalled after ≡ true)))
       → (is_stalled core ≡ false
-      → IsAsked means needs helps core.writer.route helper old core.seat steps (stops_with answer) (begun_as (stops_with answer) core.writer.route.spec.policy)
+      → IsAsked means needs helps true core.writer.route helper old core.seat steps (stops_with answer) (begun_as (stops_with answer) core.writer.route.spec.policy)
       (is_stalled after) left new after.seat later)
       → IfOk answer (λ _. in_packet (means.view new after.seat) ≡ true) × IfOk answer (λ _. open_depth (means.view new after.seat) ≡ 0)
   begun_inside helper old core steps left new after later (Err fault) waits answers done = (tt, tt)

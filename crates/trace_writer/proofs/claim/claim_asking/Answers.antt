@@ -14,6 +14,8 @@ claims-init g c = record {
   none = none_yet (g.W.Words.means.view c.args.table.now c.args.seat.now);
   work = work_none g.W.Words.means g.H.HelperOn.needs g.H.HelperOn.helps
       c.args.route.now c.args.help.now c.args.table.now c.args.seat.now c.args.steps.now c.requires.seat c.requires.needs;
+  begins = work_none g.W.Words.means g.H.HelperOn.needs g.H.HelperOn.helps
+      c.args.route.now c.args.help.now c.args.table.now c.args.seat.now c.args.steps.now c.requires.seat c.requires.needs;
 }
 
 pub returns-in-Some-clause-won : goal.returns-in-Some-clause-won
@@ -32,6 +34,20 @@ returns-in-Some-clause-work g c =
     (work_gets g.W.Words.means g.H.HelperOn.needs g.H.HelperOn.helps
     route c.claims.help c.claims.table c.claims.seat c.claims.steps c.claim_over.new.table c.claim_over.new.seat c.claim_over.new.steps g.met.H.HelperOn.needs_stay
     c.claims.invariant.work.needed
+    (gets_chunk g.W.Words.means
+    route c.in-Some.held.chunk _ c.claims.table c.claims.seat c.claim_over.new.table c.claim_over.new.seat c.claim_over.ensures.step c.in-Some.ensures.won c.in-Some.ensures.told_won)
+    (won_counts (g.W.Words.means.setup c.claims.table) route.arbiter.first route.arbiter.chunks c.in-Some.held.chunk (g.W.Words.means.view c.claims.table c.claims.seat)
+    (g.W.Words.means.view c.claim_over.new.table c.claim_over.new.seat) c.claims.steps c.claim_over.new.steps c.in-Some.ensures.won c.in-Some.ensures.steps_won))
+
+pub returns-in-Some-clause-begins : goal.returns-in-Some-clause-begins
+returns-in-Some-clause-begins g c =
+    let route = c.args.route.now in
+    work_behind g.W.Words.means g.H.HelperOn.needs g.H.HelperOn.helps
+    route c.args.help.now c.args.table.now c.args.seat.now c.args.steps.now c.claims.help c.claims.table c.claims.seat c.claims.steps false c.claims.help
+    c.claim_over.new.table c.claim_over.new.seat c.claim_over.new.steps c.claims.invariant.begins
+    (work_gets g.W.Words.means g.H.HelperOn.needs g.H.HelperOn.helps
+    route c.claims.help c.claims.table c.claims.seat c.claims.steps c.claim_over.new.table c.claim_over.new.seat c.claim_over.new.steps g.met.H.HelperOn.needs_stay
+    c.claims.invariant.begins.needed
     (gets_chunk g.W.Words.means
     route c.in-Some.held.chunk _ c.claims.table c.claims.seat c.claim_over.new.table c.claim_over.new.seat c.claim_over.ensures.step c.in-Some.ensures.won c.in-Some.ensures.told_won)
     (won_counts (g.W.Words.means.setup c.claims.table) route.arbiter.first route.arbiter.chunks c.in-Some.held.chunk (g.W.Words.means.view c.claims.table c.claims.seat)
@@ -63,6 +79,24 @@ returns-then-not-help-clause-work g c =
     (lost_counts (g.W.Words.means.setup c.claims.table) route.arbiter.first route.arbiter.chunks (g.W.Words.means.view c.claims.table c.claims.seat)
     (g.W.Words.means.view c.claim_over.new.table c.claim_over.new.seat) c.claims.steps c.claim_over.new.steps c.in_default.ensures.lost c.in_default.ensures.steps_lost))
 
+pub returns-then-not-help-clause-begins : goal.returns-then-not-help-clause-begins
+returns-then-not-help-clause-begins g c =
+    let route = c.args.route.now in
+    let out : IsOutNow g.W.Words.means
+    route c.claims.table c.claims.seat c.claim_over.new.table c.claim_over.new.seat =
+    out_now g.W.Words.means
+    route c.claims.table c.claims.seat c.claim_over.new.table c.claim_over.new.seat c.claim_over.ensures.step c.in_default.ensures.lost
+    (subst (λ (begun : List BegunChunk). NoneHeld begun) (sym c.claims.invariant.none.begun) c.requires.none_held) c.in_default.ensures.told_lost in
+    work_behind g.W.Words.means g.H.HelperOn.needs g.H.HelperOn.helps
+    route c.args.help.now c.args.table.now c.args.seat.now c.args.steps.now c.claims.help c.claims.table c.claims.seat c.claims.steps true c.help.new.self
+    c.help.new.table c.claim_over.new.seat c.claim_over.new.steps c.claims.invariant.begins
+    (work_refused g.W.Words.means g.H.HelperOn.needs g.H.HelperOn.helps
+    route c.claims.help c.claims.table c.claims.seat c.claims.steps c.claim_over.new.table c.claim_over.new.seat c.claim_over.new.steps c.help.new.self c.help.new.table c.requires.stalls out
+    (subst (λ (answer : Bool). g.H.HelperOn.helps c.claims.help c.claim_over.new.table route.spec.producer answer c.help.new.self c.help.new.table) c.if-not-help.true c.help.ensures.helps)
+    c.help.ensures.leaves c.help.ensures.needs
+    (lost_counts (g.W.Words.means.setup c.claims.table) route.arbiter.first route.arbiter.chunks (g.W.Words.means.view c.claims.table c.claims.seat)
+    (g.W.Words.means.view c.claim_over.new.table c.claim_over.new.seat) c.claims.steps c.claim_over.new.steps c.in_default.ensures.lost c.in_default.ensures.steps_lost))
+
 pub claims-preserved : goal.claims-preserved
 claims-preserved g c =
     let route = c.args.route.now in
@@ -79,6 +113,14 @@ claims-preserved g c =
       work = work_behind g.W.Words.means g.H.HelperOn.needs g.H.HelperOn.helps
           route c.args.help.now c.args.table.now c.args.seat.now c.args.steps.now c.claims.help c.claims.table c.claims.seat c.claims.steps false c.help.new.self
           c.help.new.table c.claim_over.new.seat c.claim_over.new.steps c.claims.invariant.work
+          (work_helped g.W.Words.means g.H.HelperOn.needs g.H.HelperOn.helps
+          route c.claims.help c.claims.table c.claims.seat c.claims.steps c.claim_over.new.table c.claim_over.new.seat c.claim_over.new.steps c.help.new.self c.help.new.table c.requires.stalls out
+          (subst (λ (answer : Bool). g.H.HelperOn.helps c.claims.help c.claim_over.new.table route.spec.producer answer c.help.new.self c.help.new.table) c.if-not-help.false c.help.ensures.helps)
+          c.help.ensures.leaves c.help.ensures.needs
+          (lost_counts (g.W.Words.means.setup c.claims.table) route.arbiter.first route.arbiter.chunks mid new c.claims.steps c.claim_over.new.steps c.in_default.ensures.lost c.in_default.ensures.steps_lost));
+      begins = work_behind g.W.Words.means g.H.HelperOn.needs g.H.HelperOn.helps
+          route c.args.help.now c.args.table.now c.args.seat.now c.args.steps.now c.claims.help c.claims.table c.claims.seat c.claims.steps false c.help.new.self
+          c.help.new.table c.claim_over.new.seat c.claim_over.new.steps c.claims.invariant.begins
           (work_helped g.W.Words.means g.H.HelperOn.needs g.H.HelperOn.helps
           route c.claims.help c.claims.table c.claims.seat c.claims.steps c.claim_over.new.table c.claim_over.new.seat c.claim_over.new.steps c.help.new.self c.help.new.table c.requires.stalls out
           (subst (λ (answer : Bool). g.H.HelperOn.helps c.claims.help c.claim_over.new.table route.spec.producer answer c.help.new.self c.help.new.table) c.if-not-help.false c.help.ensures.helps)

@@ -25,3 +25,9 @@ pub claim_trying-requires-clause-few : goal.claim_trying-requires-clause-few
 claim_trying-requires-clause-few g c =
     let none = none_counted (g.W.Words.means.view c.args.table.now c.args.seat.now).begun c.requires.none_held in
     omega (arith, none)
+
+pub returns-in-Stalls-clause-work : goal.returns-in-Stalls-clause-work
+returns-in-Stalls-clause-work g c = c.claim_asking.ensures.begins
+
+pub returns-in-StallsThenDrops-clause-work : goal.returns-in-StallsThenDrops-clause-work
+returns-in-StallsThenDrops-clause-work g c = c.claim_trying.ensures.begins c.requires.none_held
