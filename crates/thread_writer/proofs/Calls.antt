@@ -86,29 +86,29 @@ module _ {A H : Type 0} (helps : H → ℕ → Bool → H → Type 0) (of_table 
   Answers = refusal_of old reason ≡ None
       → MatchResult answer (λ _. is_stalled new ≡ false) (λ fault. (fault ≡ call_fault.Stalled) × (is_stalled new ≡ true))
 
-  abbrev pub DoesIt : Bool → List Call → Type 0
-  DoesIt stopped noted = IsAsked shared.means (MayAsk of_table) (IsHelp helps) (route_of old) help table old.seat steps stopped noted
+  abbrev pub DoesIt : Bool → Bool → List Call → Type 0
+  DoesIt begins stopped noted = IsAsked shared.means (MayAsk of_table) (IsHelp helps) begins (route_of old) help table old.seat steps stopped noted
       (is_stalled new) left behind new.seat later
 
   -- the table behind it is the lent one
-  pub same_table : (noted : Bool → List Call) → Refuses → (refusal_of old reason ≡ None → (stopped : Bool) × DoesIt stopped (noted stopped))
+  pub same_table : {begins : Bool} (noted : Bool → List Call) → Refuses → (refusal_of old reason ≡ None → (stopped : Bool) × DoesIt begins stopped (noted stopped))
       → identity_of behind.table.now ≡ identity_of table.table.now
   same_table noted refused done = either (refusal_of old reason)
       (λ fault is. ap (λ (s : Shared). identity_of s.table.now) (refused fault is).table_stays)
       (λ is. works_stay helps (route_of old) (done is).1.works)
 
   -- what was noted and completed stays
-  pub call_stays : (noted : Bool → List Call) → Refuses → (refusal_of old reason ≡ None → (stopped : Bool) × DoesIt stopped (noted stopped))
+  pub call_stays : {begins : Bool} (noted : Bool → List Call) → Refuses → (refusal_of old reason ≡ None → (stopped : Bool) × DoesIt begins stopped (noted stopped))
       → Stays (known_by old.seat) (known_by new.seat)
   call_stays noted refused done = either (refusal_of old reason)
       (λ fault is. let same = (refused fault is).writer_stays in
       all_stays (known_by old.seat) (known_by new.seat) (ap (λ (c : WriterCore WriterSeat). (known_by c.seat).calls) same) (ap (λ (c : WriterCore WriterSeat). (known_by c.seat).begun) same))
       (λ is. let does = done is in (noted does.0, does.1.notes, works_keep_completed shared.means (route_of old) (IsHelp helps) does.1.works))
 
-  pub call_is : (stopped : Bool) (noted : List Call) → Refuses → Answers → (refusal_of old reason ≡ None → DoesIt stopped noted)
+  pub call_is : {begins : Bool} (stopped : Bool) (noted : List Call) → Refuses → Answers → (refusal_of old reason ≡ None → DoesIt begins stopped noted)
       → ((route_of old).spec.policy ≡ Drops → (left ≡ help) × IsWriterStep shared.means table old.seat behind new.seat)
       → route_of new ≡ route_of old
-      → IsCall helps of_table table old new help left steps later answer reason stopped noted
+      → IsCall helps of_table table old new help left steps later answer reason begins stopped noted
   call_is stopped noted refused answers done alone route = record {
     behind = behind;
     same_table = same_table (λ _. noted) refused (λ is. (stopped, done is));
@@ -120,10 +120,10 @@ module _ {A H : Type 0} (helps : H → ℕ → Bool → H → Type 0) (of_table 
   }
 
   -- where the call alone knows whether it stopped
-  pub some_call : (noted : Bool → List Call) → Refuses → Answers → (refusal_of old reason ≡ None → (stopped : Bool) × DoesIt stopped (noted stopped))
+  pub some_call : {begins : Bool} (noted : Bool → List Call) → Refuses → Answers → (refusal_of old reason ≡ None → (stopped : Bool) × DoesIt begins stopped (noted stopped))
       → ((route_of old).spec.policy ≡ Drops → (left ≡ help) × IsWriterStep shared.means table old.seat behind new.seat)
       → route_of new ≡ route_of old
-      → (stopped : Bool) × IsCall helps of_table table old new help left steps later answer reason stopped (noted stopped)
+      → (stopped : Bool) × IsCall helps of_table table old new help left steps later answer reason begins stopped (noted stopped)
   some_call noted refused answers done alone route = either (refusal_of old reason)
       (λ fault is. (false, call_is false (noted false) refused answers (λ none. absurd (let same : Some fault ≡ None = sym is ∙ none in cc)) alone route))
       (λ is. let does = done is in (does.0, call_is does.0 (noted does.0) refused answers (λ _. does.1) alone route))

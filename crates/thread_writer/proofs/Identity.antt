@@ -10,25 +10,25 @@ use Rattle.chunk_words.specs.Seats.{Rests}
 use Rattle.chunk_words.specs.Sits.{Sits, setup_in}
 use Rattle.trace_writer.specs.declared.route.Route.{Route}
 use Rattle.trace_writer.specs.Helping.{LeavesWriters, Tries, Gains, Again, Ends, Works, Done, Silent, Gets, Helped, Refused, Lost, Tried, GivesUp}
-use Rattle.trace_writer.specs.OwnSteps.{IsQuiet, IsSilent, GetsChunk, IsInVain, IsOutNow}
+use Rattle.trace_writer.specs.OwnSteps.{IsQuiet, IsSilent, GetsChunk, IsVainTry, IsOutNow}
 use Rattle.thread_writer.specs.declared.helper.Asks.{Asks}
 use Rattle.chunk_words.specs.Named.{identity_of}
 use Rattle.thread_writer.specs.Asking.{IsHelp}
 use Rattle.thread_writer.specs.Standing.{step_stays}
 
 module _ {H : Type 0} (helps : H → ℕ → Bool → H → Type 0) (route : Route) where
-  tries_stay : {left : ℕ} {helper kept : Asks H} {old new : Shared} {seat after : WriterSeat} {stopped : Bool}
-      → Tries (GetsChunk shared.means route) (IsInVain shared.means route)
+  tries_stay : {begins : Bool} {left : ℕ} {helper kept : Asks H} {old new : Shared} {seat after : WriterSeat} {stopped : Bool}
+      → Tries (GetsChunk shared.means route) (IsVainTry shared.means route begins)
       (λ asks table answer behind freed. IsHelp helps asks table route.spec.producer answer behind freed × LeavesWriters shared.means table freed)
       left helper old seat stopped kept new after
       → identity_of new.table.now ≡ identity_of old.table.now
   tries_stay (Gains left helper old seat new after gets) = step_stays old new seat after gets.step
   tries_stay (Again left helper old seat asking asker answer helped freed stopped kept new after vain helped_it more) =
-      tries_stay more ∙ (ap (λ (s : Shared). identity_of s.table.now) helped_it.0.0 ∙ step_stays old asking seat asker vain.step)
-  tries_stay (Ends helper old seat new after vain) = step_stays old new seat after vain.step
+      tries_stay more ∙ (ap (λ (s : Shared). identity_of s.table.now) helped_it.0.0 ∙ step_stays old asking seat asker vain.vain.step)
+  tries_stay (Ends helper old seat new after vain) = step_stays old new seat after vain.vain.step
 
-  pub works_stay : {policy : WriterPolicy} {helper left : Asks H} {old new : Shared} {seat after : WriterSeat} {stopped : Bool}
-      → Works policy (IsSilent shared.means) (IsQuiet shared.means) (GetsChunk shared.means route) (IsInVain shared.means route) (IsOutNow shared.means route)
+  pub works_stay : {begins : Bool} {policy : WriterPolicy} {helper left : Asks H} {old new : Shared} {seat after : WriterSeat} {stopped : Bool}
+      → Works policy (IsSilent shared.means) (IsQuiet shared.means) (GetsChunk shared.means route) (IsVainTry shared.means route begins) (IsOutNow shared.means route)
       (λ asks table answer behind freed. IsHelp helps asks table route.spec.producer answer behind freed × LeavesWriters shared.means table freed)
       helper old seat stopped left new after
       → identity_of new.table.now ≡ identity_of old.table.now

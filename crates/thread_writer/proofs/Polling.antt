@@ -1,8 +1,10 @@
 -- A writer that hears of flush requests, and one that answers, is one of its table still.
-use Rattle.std.proofs.Common.{◌<◌, ◌≡◌, ◌∙◌, ℕ, ◌+◌, Bool, true, false, not, List, [], ◌∷◌, ◌++◌, length, refl, sym, ap, subst, arith, ⊎_elim, append-nil}
+use Rattle.std.proofs.Common.{◌<◌, ◌≡◌, ◌∙◌, ℕ, ◌+◌, Bool, true, false, not, List, [], ◌∷◌, ◌++◌, length, take, refl, sym, ap, subst, arith, ⊎_elim, append-nil}
+use Rattle.std.proofs.lemmas.List.{take_all}
 use Rattle.trace_model.specs.Calls.{Call, Flushed}
 use Rattle.chunk_plain.specs.Histories.{completed_images}
 use Rattle.chunk_plain.specs.Letters.{last_flush, knows_request, answers_with}
+use Rattle.chunk_plain.specs.Owned.{held_count}
 use Rattle.chunk_plain.specs.Setup.{Setup}
 use Rattle.chunk_plain.specs.Views.{At, BegunChunk, Letters, Reply, WriterView}
 use Rattle.chunk_plain.proofs.Lists.{at_more}
@@ -18,6 +20,7 @@ use Rattle.trace_writer.specs.Core.{WriterAgrees, holds_chunk, is_stalled, route
 use Rattle.trace_writer.specs.Empty.{is_empty, is_stalled as is_stalled_state}
 use Rattle.trace_writer.specs.OwnSteps.{KeepsChunks, NoneHeld}
 use Rattle.trace_writer.proofs.accounts.Letters.{letters_agree}
+use Rattle.trace_writer.proofs.holding.KeptChunks.{none_counted}
 use Rattle.trace_writer.proofs.holding.Answering.{cut_stays, answered_cut, all_completed, empty_holds_none}
 use Rattle.thread_writer.specs.declared.writer.TraceWriter.{TraceWriter}
 use Rattle.thread_writer.specs.Polling.{AnswersWith, HearsAlone, IsFlushed}
@@ -55,12 +58,22 @@ empty_of holds false is none = absurd (let never : true ≡ false = sym is ∙ n
 pub none_held_is_empty : (core : WriterCore WriterSeat) → holds_chunk core ≡ false → is_empty core.writer.state ≡ true
 none_held_is_empty core none = empty_of (holds_chunk core) (is_empty core.writer.state) refl none
 
+-- none of what it began is held
+none_held_in : (table : HostTable) (writer : TraceWriter) → Writes table writer → holds_chunk (core_of writer) ≡ false → NoneHeld (view_in writer).begun
+none_held_in table writer writes none =
+    empty_holds_none (setup_in table) (core_of writer).seat.place (view_in writer) (core_of writer).writer writes.agrees (none_held_is_empty (core_of writer) none)
+
 -- all that it began is completed
 pub all_of_them : (table : HostTable) (writer : TraceWriter) → Writes table writer → holds_chunk (core_of writer) ≡ false
     → length (completed_images (view_in writer).begun) ≡ length (view_in writer).begun
-all_of_them table writer writes none =
-    all_completed (view_in writer).begun
-    (empty_holds_none (setup_in table) (core_of writer).seat.place (view_in writer) (core_of writer).writer writes.agrees (none_held_is_empty (core_of writer) none))
+all_of_them table writer writes none = all_completed (view_in writer).begun (none_held_in table writer writes none)
+
+-- and so none is held of the first ones, as many as it completed
+pub none_of_them : (table : HostTable) (writer : TraceWriter) (chunks : ℕ) → Writes table writer → holds_chunk (core_of writer) ≡ false
+    → chunks ≡ length (completed_images (view_in writer).begun) → held_count (take chunks (view_in writer).begun) ≡ 0
+none_of_them table writer chunks writes none complete =
+    let all = all_of_them table writer writes none in
+    ap held_count (take_all chunks (view_in writer).begun (omega (arith, complete, all))) ∙ none_counted (view_in writer).begun (none_held_in table writer writes none)
 
 answers_are_cuts : (setup : Setup) (core : WriterCore WriterSeat) (flush chunks : ℕ) → WriterAgrees setup core.seat.place (known_by core.seat) core.writer
     → holds_chunk core ≡ false → IsFlushed (known_by core.seat).calls → chunks ≡ length (known_by core.seat).begun → AnswersAreCuts core
@@ -112,8 +125,7 @@ polled table shared_table old heard flushed new flush chunks going alone known n
     let begun : (view_in new).begun ≡ (view_in flushed).begun = ap (λ (v : WriterView). v.begun) view in
     let answers : (view_in flushed).letters.answers ≡ (view_in old).letters.answers
     = ap (λ (l : Letters). l.answers) quiet.step.letters_stay ∙ ap (λ (v : WriterView). v.letters.answers) rest in
-    let none_left : NoneHeld (view_in flushed).begun = empty_holds_none (setup_in table) (core_of flushed).seat.place (view_in flushed) (core_of flushed).writer writes.agrees
-    (none_held_is_empty (core_of flushed) none) in
+    let none_left : NoneHeld (view_in flushed).begun = none_held_in table flushed writes none in
     record {
       calls = calls ∙ noted;
       answers = ap (λ (v : WriterView). v.letters.answers) view

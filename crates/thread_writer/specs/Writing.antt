@@ -46,10 +46,10 @@ pub record Writes (table : HostTable) (writer : TraceWriter) : Type 0 where
   pub answered_is : writer.answered ≡ last_flush (view_in writer).letters.answers
   pub cuts : AnswersAreCuts (core_of writer)
 
--- A call that may ask the helper, over the lent table: what it leaves where it is refused, its answer where it isn't, and what it then did,
+-- A call that may ask the helper, over the lent table, and may be a packet's begin: what it leaves where it is refused, its answer where it isn't, and what it then did,
 -- as the same call of a writer over any table. A writer that drops leaves its helper as it was.
 pub record IsCall {A H : Type 0} (helps : H → ℕ → Bool → H → Type 0) (of_table : H → TableId → Type 0) (table : Shared) (old new : WriterCore WriterSeat) (help left : Asks H) (steps later : ℕ)
-    (answer : Result A CallFault) (reason : Option CallFault) (stopped : Bool) (noted : List Call) : Type 0 where
+    (answer : Result A CallFault) (reason : Option CallFault) (begins stopped : Bool) (noted : List Call) : Type 0 where
   -- the table as the call leaves it
   pub behind : Shared
   pub same_table : identity_of behind.table.now ≡ identity_of table.table.now
@@ -57,7 +57,7 @@ pub record IsCall {A H : Type 0} (helps : H → ℕ → Bool → H → Type 0) (
   pub answers : refusal_of old reason ≡ None
       → MatchResult answer (λ _. is_stalled new ≡ false) (λ fault. (fault ≡ call_fault.Stalled) × (is_stalled new ≡ true))
   pub done : refusal_of old reason ≡ None → IsAsked shared.means (MayAsk of_table) (IsHelp helps)
-      (route_of old) help table old.seat steps stopped noted (is_stalled new) left behind new.seat later
+      begins (route_of old) help table old.seat steps stopped noted (is_stalled new) left behind new.seat later
   pub alone : (route_of old).spec.policy ≡ Drops → (left ≡ help) × IsWriterStep shared.means table old.seat behind new.seat
   pub route : route_of new ≡ route_of old
 

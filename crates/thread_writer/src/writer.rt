@@ -92,7 +92,7 @@ impl TraceWriter {
         ensures writes { Writes table.now self.new }
         ensures help { H.of_table help.new.help (identity_of table.now) }
         ensures call { IsCall H.helps H.of_table (lent table.entry) (core_of self.old) (core_of self.new)
-            help.old help.new steps.old steps.new result None (stops_with result)
+            help.old help.new steps.old steps.new result None true (stops_with result)
             (begun_as (stops_with result) (route_of (core_of self.old)).spec.policy) }
         ensures asked { begins_here (core_of self.old) → (view_in self.new).asked ≡ (view_in self.old).asked }
         ensures in_packet { IfOk result (λ _. in_packet (view_in self.new) ≡ true) }
@@ -119,7 +119,7 @@ impl TraceWriter {
         ensures writes { Writes table.now self.new }
         ensures help { H.of_table help.new.help (identity_of table.now) }
         ensures call { (stopped : Bool) × IsCall H.helps H.of_table (lent table.entry) (core_of self.old) (core_of self.new)
-            help.old help.new steps.old steps.new result (field_fault (view_in self.old) field (length (number_field field value))) stopped
+            help.old help.new steps.old steps.new result (field_fault (view_in self.old) field (length (number_field field value))) false stopped
             (written_as stopped (route_of (core_of self.old)).spec.policy (call.Number field value)) }
         ensures asked { FitsHere (core_of self.old) (length (number_field field value))
             → (view_in self.new).asked ≡ (view_in self.old).asked }
@@ -149,7 +149,7 @@ impl TraceWriter {
         ensures writes { Writes table.now self.new }
         ensures help { H.of_table help.new.help (identity_of table.now) }
         ensures call { (stopped : Bool) × IsCall H.helps H.of_table (lent table.entry) (core_of self.old) (core_of self.new)
-            help.old help.new steps.old steps.new result (field_fault (view_in self.old) field (bytes_size field times value.now)) stopped
+            help.old help.new steps.old steps.new result (field_fault (view_in self.old) field (bytes_size field times value.now)) false stopped
             (written_as stopped (route_of (core_of self.old)).spec.policy (call.Bytes field value.now times)) }
         ensures asked { FitsHere (core_of self.old) (bytes_size field times value.now)
             → (view_in self.new).asked ≡ (view_in self.old).asked }
@@ -177,7 +177,7 @@ impl TraceWriter {
         ensures writes { Writes table.now self.new }
         ensures help { H.of_table help.new.help (identity_of table.now) }
         ensures call { (stopped : Bool) × IsCall H.helps H.of_table (lent table.entry) (core_of self.old) (core_of self.new)
-            help.old help.new steps.old steps.new result (nested_fault (view_in self.old) field) stopped
+            help.old help.new steps.old steps.new result (nested_fault (view_in self.old) field) false stopped
             (written_as stopped (route_of (core_of self.old)).spec.policy (call.Nested field)) }
         ensures asked { FitsHere (core_of self.old) (length (nested_tag field) + 4)
             → (view_in self.new).asked ≡ (view_in self.old).asked }

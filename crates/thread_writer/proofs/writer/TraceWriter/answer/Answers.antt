@@ -1,20 +1,24 @@
-use Rattle.std.proofs.Common.{◌≡◌, ◌∙◌, length, refl, ap, arith}
+use Rattle.std.proofs.Common.{◌≡◌, ◌∙◌, length, take, refl, sym, ap, subst}
 use Rattle.crossbeam_utils.specs.Padded.{padded_with_value}
 use Rattle.chunk_plain.specs.Histories.{completed_images}
 use Rattle.chunk_plain.specs.Letters.{answers_with}
+use Rattle.chunk_plain.specs.Owned.{held_count}
 use Rattle.chunk_words.specs.declared.seats.WriterSeat.{WriterSeat}
 use Rattle.chunk_words.specs.Sits.{known_by}
 use Rattle.trace_writer.specs.declared.writer.WriterCore.{WriterCore}
-use Rattle.thread_writer.specs.Writing.{view_in}
-use Rattle.thread_writer.proofs.Polling.{all_of_them, answered_writes}
+use Rattle.thread_writer.proofs.Polling.{none_of_them, answered_writes}
 use Rattle.thread_writer.proofs.writer.TraceWriter.answer.Goals as goal
 
 pub answer-requires-clause-chunks : goal.answer-requires-clause-chunks
 answer-requires-clause-chunks c =
-    let complete : c.completed-chunks.result ≡ length (completed_images (view_in c.args.self.now).begun) = c.completed-chunks.ensures c.args.table.now c.requires.writes in
-    let all = all_of_them c.args.table.now c.args.self.now c.requires.writes c.requires.none_held in
-    let same = ap (λ (core : WriterCore WriterSeat). length (known_by core.seat).begun) c.deref_mut.ensures.value in
-    omega (arith, complete, all, same)
+    c.completed-chunks.ensures c.args.table.now c.requires.writes
+    ∙ sym (ap (λ (core : WriterCore WriterSeat). length (completed_images (known_by core.seat).begun)) c.deref_mut.ensures.value)
+
+pub answer-requires-clause-none_held : goal.answer-requires-clause-none_held
+answer-requires-clause-none_held c =
+    let chunks = c.completed-chunks.result in
+    subst (λ (core : WriterCore WriterSeat). held_count (take chunks (known_by core.seat).begun) ≡ 0) (sym c.deref_mut.ensures.value)
+    (none_of_them c.args.table.now c.args.self.now chunks c.requires.writes c.requires.none_held (c.completed-chunks.ensures c.args.table.now c.requires.writes))
 
 pub returns-clause-writes : goal.returns-clause-writes
 returns-clause-writes c =

@@ -1,4 +1,4 @@
-use Rattle.std.proofs.Common.{None, refl, subst}
+use Rattle.std.proofs.Common.{true, None, refl, subst}
 use Rattle.crossbeam_utils.specs.Padded.{padded_with_value}
 use Rattle.atomic_table.specs.Seated.{TableId}
 use Rattle.chunk_words.specs.declared.seats.WriterSeat.{WriterSeat}
@@ -40,5 +40,5 @@ returns-clause-call g c =
     None (stops_with c.begin.result) (begun_as (stops_with c.begin.result) (route_of before).spec.policy)
     did.refused did.answers did.done did.alone did.route in
     subst (λ (core : WriterCore WriterSeat). IsCall g.H.Helper.helps g.H.Helper.of_table (lent c.args.table) core c.begin.new.self c.args.help.now c.begin.new.help c.args.steps.now c.begin.new.steps c.begin.result
-    None (stops_with c.begin.result) (begun_as (stops_with c.begin.result) (route_of core).spec.policy))
+    None true (stops_with c.begin.result) (begun_as (stops_with c.begin.result) (route_of core).spec.policy))
     c.deref_mut.ensures.value made

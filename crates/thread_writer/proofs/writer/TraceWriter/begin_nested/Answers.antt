@@ -1,4 +1,4 @@
-use Rattle.std.proofs.Common.{Bool, refl, subst}
+use Rattle.std.proofs.Common.{Bool, false, refl, subst}
 use Rattle.crossbeam_utils.specs.Padded.{padded_with_value}
 use Rattle.atomic_table.specs.Seated.{TableId}
 use Rattle.chunk_words.specs.declared.seats.WriterSeat.{WriterSeat}
@@ -44,5 +44,5 @@ returns-clause-call g c =
     (λ stopped. written_as stopped (route_of before).spec.policy (call.Nested c.args.field))
     did.refused did.answers did.done did.alone did.route in
     subst (λ (core : WriterCore WriterSeat). (stopped : Bool) × IsCall g.H.Helper.helps g.H.Helper.of_table (lent c.args.table) core c.begin_nested.new.self c.args.help.now c.begin_nested.new.help c.args.steps.now c.begin_nested.new.steps c.begin_nested.result
-    (nested_fault (known_by core.seat) c.args.field) stopped (written_as stopped (route_of core).spec.policy (call.Nested c.args.field)))
+    (nested_fault (known_by core.seat) c.args.field) false stopped (written_as stopped (route_of core).spec.policy (call.Nested c.args.field)))
     c.deref_mut.ensures.value made

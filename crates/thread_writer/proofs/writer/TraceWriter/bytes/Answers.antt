@@ -1,4 +1,4 @@
-use Rattle.std.proofs.Common.{Bool, refl, subst}
+use Rattle.std.proofs.Common.{Bool, false, refl, subst}
 use Rattle.crossbeam_utils.specs.Padded.{padded_with_value}
 use Rattle.atomic_table.specs.Seated.{TableId}
 use Rattle.chunk_words.specs.declared.seats.WriterSeat.{WriterSeat}
@@ -44,5 +44,5 @@ returns-clause-call g c =
     (λ stopped. written_as stopped (route_of before).spec.policy (call.Bytes c.args.field c.args.value.now c.args.times))
     did.refused did.answers did.done did.alone did.route in
     subst (λ (core : WriterCore WriterSeat). (stopped : Bool) × IsCall g.H.Helper.helps g.H.Helper.of_table (lent c.args.table) core c.bytes.new.self c.args.help.now c.bytes.new.help c.args.steps.now c.bytes.new.steps c.bytes.result
-    (field_fault (known_by core.seat) c.args.field (bytes_size c.args.field c.args.times c.args.value.now)) stopped (written_as stopped (route_of core).spec.policy (call.Bytes c.args.field c.args.value.now c.args.times)))
+    (field_fault (known_by core.seat) c.args.field (bytes_size c.args.field c.args.times c.args.value.now)) false stopped (written_as stopped (route_of core).spec.policy (call.Bytes c.args.field c.args.value.now c.args.times)))
     c.deref_mut.ensures.value made

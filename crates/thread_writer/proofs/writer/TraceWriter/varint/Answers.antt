@@ -1,4 +1,4 @@
-use Rattle.std.proofs.Common.{Bool, length, refl, subst}
+use Rattle.std.proofs.Common.{Bool, false, length, refl, subst}
 use Rattle.crossbeam_utils.specs.Padded.{padded_with_value}
 use Rattle.atomic_table.specs.Seated.{TableId}
 use Rattle.chunk_words.specs.declared.seats.WriterSeat.{WriterSeat}
@@ -45,5 +45,5 @@ returns-clause-call g c =
     (λ stopped. written_as stopped (route_of before).spec.policy (call.Number c.args.field c.args.value))
     did.refused did.answers did.done did.alone did.route in
     subst (λ (core : WriterCore WriterSeat). (stopped : Bool) × IsCall g.H.Helper.helps g.H.Helper.of_table (lent c.args.table) core c.varint.new.self c.args.help.now c.varint.new.help c.args.steps.now c.varint.new.steps c.varint.result
-    (field_fault (known_by core.seat) c.args.field (length (number_field c.args.field c.args.value))) stopped (written_as stopped (route_of core).spec.policy (call.Number c.args.field c.args.value)))
+    (field_fault (known_by core.seat) c.args.field (length (number_field c.args.field c.args.value))) false stopped (written_as stopped (route_of core).spec.policy (call.Number c.args.field c.args.value)))
     c.deref_mut.ensures.value made
