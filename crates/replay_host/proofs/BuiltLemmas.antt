@@ -31,7 +31,8 @@ use Rattle.service_core.proofs.MakeLemmas.{ranges_long}
 use Rattle.replay_model.specs.Played.{IsSpecOf}
 use Rattle.replay_host.specs.declared.host.Host.{Host}
 use Rattle.replay_host.specs.Asking.{IsReadyFor}
-use Rattle.replay_host.specs.Lines.{coming_at, requests_in}
+use Rattle.replay_model.specs.Flushes.{requests_in}
+use Rattle.replay_host.specs.Lines.{coming_at}
 use Rattle.replay_host.specs.Making.{IsMade, buffer_asked}
 use Rattle.replay_host.specs.Playing.{IsHost}
 use Rattle.replay_host.specs.Standing.{IsServed, Stands}

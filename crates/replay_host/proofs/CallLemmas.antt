@@ -21,10 +21,10 @@ use Rattle.trace_writer.specs.declared.fault.CallFault.TheVariants as fault
 use Rattle.trace_writer.specs.Core.{CoreAgrees, WriterAgrees, is_stalled, refusal_of, route_of}
 use Rattle.trace_writer.specs.Helping.{LeavesWriters, Works, Done, refuses, loses}
 use Rattle.trace_writer.specs.Outcomes.{held_images, images_so_far, patches_so_far}
-use Rattle.trace_writer.specs.OwnSteps.{IsQuiet, IsSilent, GetsChunk, IsInVain, IsOutNow}
+use Rattle.trace_writer.specs.OwnSteps.{IsQuiet, IsSilent, GetsChunk, IsVainTry, IsOutNow}
 use Rattle.trace_writer.proofs.accounts.CutLaws.{agreeing_is_cut}
 use Rattle.replay_model.specs.Does.{MayNeedChunk}
-use Rattle.replay_host.specs.Asking.{IsReadyFor, IsCalled, IsStalledCall, noted_as}
+use Rattle.replay_host.specs.Asking.{IsReadyFor, IsCalled, IsStalledCall, begins_one, noted_as}
 use Rattle.replay_host.proofs.ReadyLemmas.{between_is}
 use Rattle.replay_host.proofs.WroteLemmas.{begun_many}
 
@@ -37,7 +37,7 @@ loses_by (StallsThenDrops tries) stopped none is = refl
 -- a call that may have asked for chunks
 pub asked_called : {H T W S : Type 0} (means : Meaning T W S) (needs : H → T → Type 0) (helps : H → T → ℕ → Bool → H → T → Type 0)
     (call : Call) (helper : H) (old : T) (core : WriterCore W) (steps : ℕ) (stopped : Bool) (noted : List Call) (left : H) (new : T) (after : WriterCore W) (later : ℕ)
-    → MayNeedChunk call → IsAsked means needs helps (route_of core) helper old core.seat steps stopped noted (is_stalled after) left new after.seat later
+    → MayNeedChunk call → IsAsked means needs helps (begins_one call) (route_of core) helper old core.seat steps stopped noted (is_stalled after) left new after.seat later
     → CoreAgrees (means.setup old) (means.place core.seat) (means.view new after.seat) after → is_stalled after ≡ false
     → noted ≡ noted_as stopped (route_of core).spec.policy call
     → IsCalled means needs helps call helper old core left new after
@@ -63,7 +63,7 @@ stalls_by (StallsThenDrops tries) stopped is = absurd (let never : false ≡ tru
 -- a call in which its writer stalled
 pub asked_stalled : {H T W S : Type 0} (means : Meaning T W S) (needs : H → T → Type 0) (helps : H → T → ℕ → Bool → H → T → Type 0)
     (call : Call) (helper : H) (old : T) (core : WriterCore W) (steps : ℕ) (stopped : Bool) (noted : List Call) (left : H) (new : T) (after : WriterCore W) (later : ℕ)
-    → MayNeedChunk call → IsAsked means needs helps (route_of core) helper old core.seat steps stopped noted (is_stalled after) left new after.seat later
+    → MayNeedChunk call → IsAsked means needs helps (begins_one call) (route_of core) helper old core.seat steps stopped noted (is_stalled after) left new after.seat later
     → CoreAgrees (means.setup old) (means.place core.seat) (means.view new after.seat) after → is_stalled after ≡ true
     → noted ≡ noted_as stopped (route_of core).spec.policy call
     → IsStalledCall means needs helps call helper old core left new after
@@ -76,7 +76,7 @@ asked_stalled means needs helps call helper old core steps stopped noted left ne
       halted = halted;
       needed = asked.needed;
       others = asked.others;
-      works = subst (λ (b : Bool). Works (route_of core).spec.policy (IsSilent means) (IsQuiet means) (GetsChunk means (route_of core)) (IsInVain means (route_of core)) (IsOutNow means (route_of core))
+      works = subst (λ (b : Bool). Works (route_of core).spec.policy (IsSilent means) (IsQuiet means) (GetsChunk means (route_of core)) (IsVainTry means (route_of core) (begins_one call)) (IsOutNow means (route_of core))
           (λ asked table answer behind freed. helps asked table (route_of core).spec.producer answer behind freed × LeavesWriters means table freed)
           helper old core.seat b left new after.seat) by.1 asked.works;
       notes = asked.notes ∙ ap (λ (cs : List Call). (means.view old core.seat).calls ++ cs)

@@ -15,7 +15,7 @@ use Rattle.scenario_text.specs.Accepted.{node_call, if_own, line_calls, closes, 
 use Rattle.replay_model.specs.Acts.{asks}
 use Rattle.replay_model.specs.Schedule.{acts_of, asked_of, is_due_after}
 use Rattle.replay_host.specs.Asks.{AsksFor, LeavesDue}
-use Rattle.replay_host.specs.Lines.{request_count}
+use Rattle.replay_model.specs.Flushes.{request_count}
 
 -- ---- whether a packet is begun
 

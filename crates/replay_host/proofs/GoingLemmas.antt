@@ -16,12 +16,12 @@ use Rattle.trace_writer.specs.declared.writer.WriterCore.{WriterCore}
 use Rattle.service_core.specs.Agreement.{first_of}
 use Rattle.world_model.specs.FirstBuffers.{payload_at}
 use Rattle.replay_model.specs.Acts.{Act}
-use Rattle.replay_model.specs.Flushes.{FlushNote}
+use Rattle.replay_model.specs.Flushes.{FlushNote, requests_in}
 use Rattle.replay_model.specs.Played.{IsSetupOf, buffers_of}
 use Rattle.replay_host.specs.declared.host.Host.{Host}
 use Rattle.replay_host.specs.Answering.{KeepsGoing, GoesOn}
 use Rattle.replay_host.specs.Asking.{IsReadyFor}
-use Rattle.replay_host.specs.Lines.{MOST_REQUESTS, IsKept, IsGoing, requests_in}
+use Rattle.replay_host.specs.Lines.{MOST_REQUESTS, IsKept, IsGoing}
 use Rattle.replay_host.specs.Playing.{IsHost, HasDone, HasPlayed, IsTraceOf, LeavesWriters}
 use Rattle.replay_host.specs.Tally.{IsTally}
 use Rattle.replay_host.proofs.HostLemmas.{played_none, played_both}

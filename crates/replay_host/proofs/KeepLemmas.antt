@@ -7,7 +7,7 @@ use Rattle.chunk_plain.specs.Setup.{Setup}
 use Rattle.chunk_plain.specs.Views.{ServiceView}
 use Rattle.trace_writer.specs.declared.route.Route.{Route}
 use Rattle.trace_writer.specs.Helping.{LeavesWriters, Tries, Gains, Again, Ends, Works, Done, Silent, Gets, Helped, Refused, Lost, Tried, GivesUp}
-use Rattle.trace_writer.specs.OwnSteps.{IsQuiet, IsSilent, GetsChunk, IsInVain, IsOutNow}
+use Rattle.trace_writer.specs.OwnSteps.{IsQuiet, IsSilent, GetsChunk, IsVainTry, IsOutNow}
 use Rattle.service_core.specs.declared.service.ServiceCore.{ServiceCore}
 use Rattle.service_core.specs.Agreement.{KeepsRest}
 use Rattle.service_core.proofs.AgreeLemmas.{keeps_same, keeps_both}
@@ -85,22 +85,22 @@ keeps_then means helper middle left old mid new one two = record {
   serves = two.serves;
 }
 
-tries_keep : {T W S : Type 0} (means : Meaning T W S) (route : Route) {left : ℕ} {helper : Collecting S} {old : T} {seat : W} {stopped : Bool} {kept : Collecting S} {new : T} {after : W}
-    → Tries (GetsChunk means route) (IsInVain means route)
+tries_keep : {T W S : Type 0} (means : Meaning T W S) (route : Route) {begins : Bool} {left : ℕ} {helper : Collecting S} {old : T} {seat : W} {stopped : Bool} {kept : Collecting S} {new : T} {after : W}
+    → Tries (GetsChunk means route) (IsVainTry means route begins)
     (λ asked table answer behind freed. Helps means asked table route.spec.producer answer behind freed × LeavesWriters means table freed)
     left helper old seat stopped kept new after
     → helper.producer ≡ route.spec.producer → means.serves old helper.service.seat → Keeps means helper old kept new
 tries_keep means route (Gains left helper old seat new after gets) producer serves = step_keeps means helper old seat new after gets.step serves
 tries_keep means route (Again left helper old seat asking asker answer helped freed stopped kept new after vain helps more) producer serves =
     let help = help_keeps means helper helped asking freed route.spec.producer answer helps.0 (sym producer) in
-    keeps_then means helper helper kept old asking new (step_keeps means helper old seat asking asker vain.step serves)
+    keeps_then means helper helper kept old asking new (step_keeps means helper old seat asking asker vain.vain.step serves)
     (keeps_then means helper helped kept asking freed new help (tries_keep means route more (help.producer ∙ producer) help.serves))
-tries_keep means route (Ends helper old seat new after vain) producer serves = step_keeps means helper old seat new after vain.step serves
+tries_keep means route (Ends helper old seat new after vain) producer serves = step_keeps means helper old seat new after vain.vain.step serves
 
-pub works_keep : {T W S : Type 0} (means : Meaning T W S) (route : Route) (last : T → W → T → W → Type 0)
+pub works_keep : {T W S : Type 0} (means : Meaning T W S) (route : Route) {begins : Bool} (last : T → W → T → W → Type 0)
     → ((old : T) (seat : W) (new : T) (after : W) → last old seat new after → IsQuiet means old seat new after)
     → {helper : Collecting S} {old : T} {seat : W} {stopped : Bool} {left : Collecting S} {new : T} {after : W}
-    → Works route.spec.policy (IsSilent means) last (GetsChunk means route) (IsInVain means route) (IsOutNow means route)
+    → Works route.spec.policy (IsSilent means) last (GetsChunk means route) (IsVainTry means route begins) (IsOutNow means route)
     (λ asked table answer behind freed. Helps means asked table route.spec.producer answer behind freed × LeavesWriters means table freed)
     helper old seat stopped left new after
     → helper.producer ≡ route.spec.producer → means.serves old helper.service.seat → Keeps means helper old left new

@@ -13,7 +13,8 @@ use Rattle.replay_model.specs.Acts.{Act, Collect, Scrape, ReadAll, asks}
 use Rattle.replay_model.specs.Schedule.{acts_of, asked_of}
 use Rattle.replay_host.specs.declared.host.Host.{Host}
 use Rattle.replay_host.specs.Asks.{AsksFor, AsksNothing, LeavesDue, ComesAsking}
-use Rattle.replay_host.specs.Lines.{Moment, ComesNext, request_count}
+use Rattle.replay_model.specs.Flushes.{request_count}
+use Rattle.replay_host.specs.Lines.{Moment, ComesNext}
 use Rattle.replay_host.specs.Serving.{ComesServing}
 use Rattle.replay_host.proofs.DueLemmas.{asks_for, acts_asked, due_fields, due_nest, due_unnest, due_flush, due_packet, due_begin}
 

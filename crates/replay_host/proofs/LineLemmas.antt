@@ -16,12 +16,12 @@ use Rattle.trace_writer.specs.declared.writer.WriterCore.{WriterCore}
 use Rattle.world_model.specs.FirstBuffers.{payload_at}
 use Rattle.service_core.proofs.AgreeLemmas.{first_stays}
 use Rattle.session_core.specs.Sessions.{SessionValue}
-use Rattle.replay_model.specs.Flushes.{FlushNote}
+use Rattle.replay_model.specs.Flushes.{FlushNote, requests_in}
 use Rattle.replay_model.specs.Schedule.{is_due, is_due_after}
 use Rattle.replay_host.specs.declared.host.Host.{Host}
 use Rattle.replay_host.specs.Asking.{IsReadyFor, AreReady}
 use Rattle.replay_host.specs.Asks.{AsksFor, AsksNothing}
-use Rattle.replay_host.specs.Lines.{MOST_REQUESTS, IsKept, IsGoing, coming_at, last_flush, is_open_at, requests_in}
+use Rattle.replay_host.specs.Lines.{MOST_REQUESTS, IsKept, IsGoing, coming_at, last_flush, is_open_at}
 use Rattle.replay_host.specs.Playing.{IsHost, HasAsked, asked_all}
 use Rattle.replay_host.specs.Tally.{IsTally}
 use Rattle.replay_host.proofs.GoingLemmas.{kept_still, writer_was}

@@ -29,7 +29,8 @@ use Rattle.trace_writer.specs.declared.ids.TheConstants.{PACKET_IDS}
 use Rattle.service_core.specs.Agreement.{first_of, spec_at}
 use Rattle.replay_host.specs.declared.host.Host.{Host}
 use Rattle.replay_host.specs.Asking.{IsReadyFor}
-use Rattle.replay_host.specs.Lines.{coming_at, request_count, requests_in}
+use Rattle.replay_model.specs.Flushes.{request_count, requests_in}
+use Rattle.replay_host.specs.Lines.{coming_at}
 use Rattle.replay_host.specs.Making.{IsMade}
 use Rattle.replay_host.specs.Playing.{IsTraceOf}
 

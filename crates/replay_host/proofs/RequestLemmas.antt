@@ -26,13 +26,13 @@ use Rattle.chunk_plain.specs.Views.{ServiceView}
 use Rattle.trace_writer.specs.declared.writer.WriterCore.{WriterCore}
 use Rattle.service_core.specs.Agreement.{KeepsTaking, first_of, spec_at}
 use Rattle.replay_model.specs.Acts.{Act, Answer, Request, Collect}
-use Rattle.replay_model.specs.Flushes.{FlushNote, Requested}
+use Rattle.replay_model.specs.Flushes.{FlushNote, Requested, request_count}
 use Rattle.replay_model.proofs.PlayLemmas.{plays_one}
 use Rattle.replay_model.specs.Schedule.{acts_of, is_due, is_due_after, open_places, open_producers}
 use Rattle.replay_host.specs.declared.host.Host.{Host}
 use Rattle.replay_host.specs.Answering.{GoesOn, IsAmid, MayAnswer, HasAnsweredBetween, HaveAnswered, HaveAnsweredTo, HasRequested}
 use Rattle.replay_host.specs.Asking.{AreReady}
-use Rattle.replay_host.specs.Lines.{MOST_REQUESTS, IsGoing, IsAt, IsDueAt, IsLinePlayed, Moment, ComesNext, is_open_at, coming_at, request_count}
+use Rattle.replay_host.specs.Lines.{MOST_REQUESTS, IsGoing, IsAt, IsDueAt, IsLinePlayed, Moment, ComesNext, is_open_at, coming_at}
 use Rattle.replay_host.specs.Playing.{IsHost, IsOpenAt, HasDone, IsTraceOf}
 use Rattle.replay_host.specs.Serving.{HasFlags, HasServed}
 use Rattle.replay_host.specs.Tally.{IsTally}

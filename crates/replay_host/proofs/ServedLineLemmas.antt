@@ -15,13 +15,13 @@ use Rattle.chunk_plain.specs.Meaning.{Meaning}
 use Rattle.chunk_plain.specs.Setup.{Setup}
 use Rattle.service_core.specs.Agreement.{first_of, spec_at}
 use Rattle.replay_model.specs.Acts.{Act, CloseProducer}
-use Rattle.replay_model.specs.Flushes.{FlushNote}
+use Rattle.replay_model.specs.Flushes.{FlushNote, requests_in}
 use Rattle.replay_model.specs.Played.{IsSetupOf, buffers_of}
 use Rattle.replay_model.specs.Schedule.{acts_of, is_due}
 use Rattle.replay_host.specs.declared.host.Host.{Host}
 use Rattle.replay_host.specs.Answering.{KeepsGoing}
 use Rattle.replay_host.specs.Asks.{AsksNothing}
-use Rattle.replay_host.specs.Lines.{MOST_REQUESTS, IsKept, IsLinePlayed, Moment, ComesNext, requests_in}
+use Rattle.replay_host.specs.Lines.{MOST_REQUESTS, IsKept, IsLinePlayed, Moment, ComesNext}
 use Rattle.replay_host.specs.Playing.{IsHost, HasDone, LeavesWriters}
 use Rattle.replay_host.specs.Serving.{ComesServing}
 use Rattle.replay_host.specs.Tally.{IsTally}

@@ -18,15 +18,15 @@ use Rattle.trace_writer.specs.declared.route.Route.{Route}
 use Rattle.trace_writer.specs.declared.writer.WriterCore.{WriterCore}
 use Rattle.trace_writer.specs.Core.{CoreAgrees, route_of}
 use Rattle.trace_writer.specs.Helping.{LeavesWriters, Works, Done, Silent, Gets, Helped, Refused, Lost, Tried, GivesUp}
-use Rattle.trace_writer.specs.OwnSteps.{KeepsChunks, NoneHeld, IsQuiet, IsSilent, GetsChunk, IsInVain, IsOutNow}
+use Rattle.trace_writer.specs.OwnSteps.{KeepsChunks, NoneHeld, IsQuiet, IsSilent, GetsChunk, IsVainTry, IsOutNow}
 use Rattle.service_core.proofs.AnswerLemmas.{LeavesTaken, takes_nothing}
 use Rattle.service_core.specs.Agreement.{spec_at}
 use Rattle.service_core.specs.Taking.{places_of}
 use Rattle.replay_model.specs.Does as acts
-use Rattle.replay_model.specs.Does.{LeavesRest, MayNeedChunk, IsOut, Collects, policy_of}
+use Rattle.replay_model.specs.Does.{LeavesRest, GoesRound, MayNeedChunk, IsOut, Collects, policy_of}
 use Rattle.replay_model.proofs.StandsLemmas.{works_others}
 use Rattle.replay_host.specs.declared.helper.Collecting.{Collecting}
-use Rattle.replay_host.specs.Asking.{IsStalledCall, KeepsService, noted_as}
+use Rattle.replay_host.specs.Asking.{IsStalledCall, KeepsService, begins_one, noted_as}
 use Rattle.replay_host.specs.Helping.{MayHelp, Helps}
 use Rattle.replay_host.specs.Standing.{IsSeated, Stands}
 use Rattle.replay_host.specs.Stopping.{StallsIn}
@@ -40,15 +40,18 @@ use Rattle.replay_host.proofs.WorkLemmas.{Begins, none_between, begins_quiet, be
 abbrev pub TakesNothing : Setup → (producer : ℕ) → (old new : World) → Type 0
 TakesNothing setup producer old new = (collects : Collects setup producer old new) × (collects.taken ≡ 0)
 
--- What a work in which the writer stalls comes to in the worlds that are told: a last help takes nothing, and then it does its own last
--- steps.
+-- What a work in which the writer stalls comes to in the worlds that are told: behind a round in vain a last help takes nothing, and then it
+-- does its own last steps.
 pub record StallsTo (setup : Setup) (place : ℕ) (call : Call) (was is : World) : Type 0 where
+  pub trying : World
   pub asking : World
   pub kept : World
-  pub works : acts.Works setup place call false was asking
+  pub works : acts.Works setup place call false was trying
+  pub round : GoesRound setup place trying asking
   pub out : IsOut setup place asking
   pub help : TakesNothing setup (producer_of setup place) asking kept
   pub own : LeavesRest place kept is
+  pub asked : (writer is place).asked ≡ (writer kept place).asked
   pub frees : (chunk : ℕ) → status is chunk ≡ Unclaimed → status kept chunk ≡ Unclaimed
   pub idle : asking.service.reading ≡ []
   pub owned_kept : ∥ IsOwned kept ∥₁
@@ -57,14 +60,17 @@ pub record StallsTo (setup : Setup) (place : ℕ) (call : Call) (was is : World)
 
 -- the same behind what came before
 stalls_from : (setup : Setup) (place : ℕ) (call : Call) (was mid is : World) (to : StallsTo setup place call mid is)
-    → acts.Works setup place call false was to.asking → StallsTo setup place call was is
+    → acts.Works setup place call false was to.trying → StallsTo setup place call was is
 stalls_from setup place call was mid is to works = record {
+  trying = to.trying;
   asking = to.asking;
   kept = to.kept;
   works = works;
+  round = to.round;
   out = to.out;
   help = to.help;
   own = to.own;
+  asked = to.asked;
   frees = to.frees;
   idle = to.idle;
   owned_kept = to.owned_kept;
@@ -83,7 +89,7 @@ pub stalls_world : {T W S : Type 0} (means : Meaning T W S) → AreLaws means �
     → route.spec.policy ≡ policy_of setup place
     → route.spec.policy ≡ Stalls
     → {helper : Collecting S} {old : T} {seat : W} {stopped : Bool} {left : Collecting S} {new : T} {after : W}
-    → Works route.spec.policy (IsSilent means) (IsQuiet means) (GetsChunk means route) (IsInVain means route) (IsOutNow means route)
+    → Works route.spec.policy (IsSilent means) (IsQuiet means) (GetsChunk means route) (IsVainTry means route (begins_one call)) (IsOutNow means route)
     (λ asked table answer behind freed. Helps means asked table route.spec.producer answer behind freed × LeavesWriters means table freed)
     helper old seat stopped left new after
     → stopped ≡ true → Begins means setup place route helper old seat
@@ -119,7 +125,7 @@ stalls_world means laws setup place route call may range producer policy stalls
     (begins_helped means setup place route helper helped asking freed asker true out.vain.step.seat_stays asked helps.0 helps.1) help.0 help.1 in (
       rest.0,
       rest.1,
-      stalls_from setup place call was help.0 rest.0 rest.2 (acts.Helped false was was mid.0 help.0 rest.2.asking may (sym policy ∙ stalls) (leaves_none place was)
+      stalls_from setup place call was help.0 rest.0 rest.2 (acts.Helped false was was mid.0 help.0 rest.2.trying may (sym policy ∙ stalls) (leaves_none place was)
           (round_is means laws setup place route helper old seat asking asker range out.vain begins was mid.0 told mid.1)
           (out_is means laws setup place route helper old seat asking asker range out asked mid.0 mid.1 mid.2)
           (subst (λ (p : ℕ). Collects setup p mid.0 help.0) producer
@@ -139,14 +145,16 @@ stalls_world means laws setup place route call may range producer policy stalls
       last.0,
       last.1,
       record {
+        trying = was;
         asking = mid.0;
         kept = help.0;
-        works = acts.Alone was mid.0
-            (round_is means laws setup place route helper old seat asking asker range out.vain begins was mid.0 told mid.1).leaves;
+        works = acts.Alone was was (leaves_none place was);
+        round = round_is means laws setup place route helper old seat asking asker range out.vain begins was mid.0 told mid.1;
         out = out_is means laws setup place route helper old seat asking asker range out asked mid.0 mid.1 mid.2;
         help = subst (λ (p : ℕ). TakesNothing setup p mid.0 help.0) producer
             (subst (λ (s : Setup). TakesNothing s route.spec.producer mid.0 help.0) asked.setup_is (help.2, none_taken help.2.taken help.3));
         own = quiet_leaves means laws setup place route left kept asker new after ends behind help.0 last.0 help.1 last.1;
+        asked = ap (λ (v : WriterView). v.asked) row_new ∙ ends.asked ∙ ap (λ (v : WriterView). v.asked) (sym row_kept);
         frees = last.2;
         idle = ap (λ (v : ServiceView). v.reading) (sym
             (laws.told_service_view asking helper.service.seat mid.0 mid.1 helps.0.may.served.serves))
@@ -264,19 +272,23 @@ module _ {T W S : Type 0} (means : Meaning T W S) (laws : AreLaws means) (call :
       record {
         may = stalled.may;
         policy_is = ap (λ (s : WriterSpec). s.policy) (sym spec_is) ∙ stalled.policy_is;
+        trying = to.2.trying;
         asking = to.2.asking;
         kept = to.2.kept;
         works = to.2.works;
+        round = to.2.round;
         out = to.2.out;
         collects = to.2.help.0;
         none = to.2.help.1;
         owned_kept = to.2.owned_kept;
         own = to.2.own;
+        asked = to.2.asked;
         owned = owned_new;
         stuck = others_write (means.setup old) (producer_of (means.setup old) place) place to.0 stuck;
         before = others_wrote (means.setup old) (producer_of (means.setup old) place) place was to.0 (laws.told_owned old was told_was) owned_new
             (λ other apart. to.2.own.writers other apart ∙ ap (λ (vs : List WriterView). slice_index_or vs other newcomer) to.2.help.0.writers
-            ∙ works_others (means.setup old) place was to.2.asking to.2.works other apart)
+            ∙ to.2.round.leaves.writers other apart
+            ∙ works_others (means.setup old) place was to.2.trying to.2.works other apart)
             (others_write (means.setup old) (producer_of (means.setup old) place) place to.0 stuck);
       },
     )

@@ -2,22 +2,23 @@
 use Rattle.std.proofs.Common.{◌≡◌, ◌≢◌, ◌∙◌, ℕ, ◌+◌, refl, sym, ap, subst, arith, Bool, true, false, not, ◌==◌, Some, None, List, [], ◌∷◌, ◌++◌, length, append_assoc, append-nil}
 use Rattle.trace_base.specs.declared.policy.WriterPolicy.{WriterPolicy}
 use Rattle.trace_base.specs.declared.policy.WriterPolicy.TheVariants.{Drops, StallsThenDrops}
-use Rattle.trace_model.specs.Calls.{Call}
+use Rattle.trace_model.specs.Calls.{Call, Begun, Number, Bytes, Nested, Ended, GivenUp, Finished, Flushed}
 use Rattle.claim_arbiter.specs.Claiming.{NoneFree, AllClaimed, ClaimsInTurn, lost_asks, range_in}
 use Rattle.chunk_plain.specs.declared.setup.ChunkRange.{ChunkRange}
 use Rattle.chunk_plain.specs.Setup.{Setup, range_of, producer_of}
-use Rattle.chunk_plain.specs.Views.{Ask, WriterView, ServiceView, fresh}
+use Rattle.chunk_plain.specs.Views.{Ask, BegunChunk, WriterView, ServiceView, fresh}
 use Rattle.chunk_plain.specs.Meaning.{Meaning, IsWriterStep}
 use Rattle.chunk_plain.specs.World.{World, Unclaimed, status, writer}
 use Rattle.trace_writer.specs.declared.route.Route.{Route}
 use Rattle.trace_writer.specs.Claims.{AreOwnChunks, KeepsClaims}
 use Rattle.trace_writer.specs.Helping.{LeavesWriters, refuses, loses, Tries, Gains, Again, Ends, Works, Done, Silent, Gets, Helped, Refused, Lost, Tried, GivesUp}
-use Rattle.trace_writer.specs.OwnSteps.{NoneHeld, IsQuiet, IsSilent, GetsChunk, IsInVain, IsOutNow}
+use Rattle.trace_writer.specs.OwnSteps.{KeepsChunks, NoneHeld, IsQuiet, IsSilent, GetsChunk, IsInVain, IsVainTry, IsOutNow}
 use Rattle.service_core.specs.Taking.{Takes, places_of}
 use Rattle.service_core.specs.Told.{LeavesNone}
 use Rattle.replay_model.specs.Does as acts
-use Rattle.replay_model.specs.Does.{LeavesRest, GoesRound, HasNoFreeChunk, MayNeedChunk, IsVainIn, IsOut, policy_of, asks_for, AreOpen, Collects}
+use Rattle.replay_model.specs.Does.{LeavesRest, GoesRound, HasNoFreeChunk, MayNeedChunk, IsVainIn, IsOut, policy_of, asks_for, HoldsNoneAt, AreOpen, Collects}
 use Rattle.replay_host.specs.declared.helper.Collecting.{Collecting}
+use Rattle.replay_host.specs.Asking.{begins_one}
 use Rattle.replay_host.specs.Helping.{Helps, Collected}
 use Rattle.trace_writer.proofs.claims.KeepingClaims.{chunks_kept, chunks_more}
 use Rattle.replay_host.proofs.TakenLemmas.{open_is}
@@ -294,6 +295,8 @@ round_is means laws setup place route helper old seat asking asker range vain be
           ∙ ap (λ (v : WriterView). v.asked ++ lost_asks (length v.calls) route.arbiter.first vain.words) (sym row_old)
           ∙ ap (λ (r : ChunkRange). (writer was place).asked ++ lost_asks (length (writer was place).calls) r.first vain.words) (sym range);
       calls = ap (λ (v : WriterView). v.calls) row_new ∙ vain.calls ∙ ap (λ (v : WriterView). v.calls) (sym row_old);
+      chunks = subst (λ (v : WriterView). KeepsChunks v.begun (writer is place).begun) (sym row_old)
+          (subst (λ (v : WriterView). KeepsChunks (means.view old seat).begun v.begun) (sym row_new) vain.chunks);
     }
 
 -- so is a chunk that it gets
@@ -334,23 +337,33 @@ none_free_range : (setup : Setup) (place : ℕ) (route : Route) → range_of set
 none_free_range setup place route range was is frees none =
     full_is setup place route is range (none_free_still route.arbiter.first (route.arbiter.first + route.arbiter.chunks) was is frees none)
 
+holds_none : (call : Call) (begun : List BegunChunk) → (begins_one call ≡ true → NoneHeld begun) → HoldsNoneAt call begun
+holds_none (Begun kept) begun at = at refl
+holds_none (Number field value) begun at = tt
+holds_none (Bytes field text times) begun at = tt
+holds_none (Nested field) begun at = tt
+holds_none Ended begun at = tt
+holds_none GivenUp begun at = tt
+holds_none Finished begun at = tt
+holds_none Flushed begun at = tt
+
 -- What tries for one chunk come to in the worlds that are told: the writer and its seat go on from there, and where all were in vain
 -- no chunk of its producer is free.
-record TriesTo {T W S : Type 0} (means : Meaning T W S) (setup : Setup) (place : ℕ) (route : Route) (left : ℕ) (stopped : Bool) (was is : World)
+record TriesTo {T W S : Type 0} (means : Meaning T W S) (setup : Setup) (place : ℕ) (call : Call) (route : Route) (left : ℕ) (stopped : Bool) (was is : World)
     (kept : Collecting S) (new : T) (after : W) : Type 0 where
   begins : Begins means setup place route kept new after
-  tries : acts.Tries setup place left stopped was is
+  tries : acts.Tries setup place call left stopped was is
   full : stopped ≡ true → NoneFree is route.arbiter.first (route.arbiter.first + route.arbiter.chunks)
 
-tries_world : {T W S : Type 0} (means : Meaning T W S) → AreLaws means → (setup : Setup) (place : ℕ) (route : Route)
+tries_world : {T W S : Type 0} (means : Meaning T W S) → AreLaws means → (setup : Setup) (place : ℕ) (route : Route) (call : Call)
     → range_of setup (producer_of setup place) ≡ range_in route.arbiter → route.spec.producer ≡ producer_of setup place
     → {count : ℕ} {helper : Collecting S} {old : T} {seat : W} {stopped : Bool} {kept : Collecting S} {new : T} {after : W}
-    → Tries (GetsChunk means route) (IsInVain means route)
+    → Tries (GetsChunk means route) (IsVainTry means route (begins_one call))
     (λ asked table answer behind freed. Helps means asked table route.spec.producer answer behind freed × LeavesWriters means table freed)
     count helper old seat stopped kept new after
     → Begins means setup place route helper old seat → (was : World) → means.told old ≡ Some was
-    → (is : World) × (means.told new ≡ Some is) × TriesTo means setup place route count stopped was is kept new after
-tries_world means laws setup place route range producer (Gains count helper old seat new after gets) begins was told =
+    → (is : World) × (means.told new ≡ Some is) × TriesTo means setup place call route count stopped was is kept new after
+tries_world means laws setup place route call range producer (Gains count helper old seat new after gets) begins was told =
     let next = gets.frees_none was told in (
       next.0,
       next.1,
@@ -361,33 +374,35 @@ tries_world means laws setup place route range producer (Gains count helper old 
         full = λ stops. absurd (let never : true ≡ false = sym stops in cc);
       },
     )
-tries_world means laws setup place route range producer (Again count helper old seat asking asker answer helped freed stopped kept new after vain helps more) begins was told =
-    let mid = vain.none_free was told in
-    let asked = begins_out means setup place route helper old seat asking asker vain begins in
+tries_world means laws setup place route call range producer (Again count helper old seat asking asker answer helped freed stopped kept new after vain helps more) begins was told =
+    let mid = vain.vain.none_free was told in
+    let asked = begins_out means setup place route helper old seat asking asker vain.vain begins in
     let help = collects_world means laws helper helped asking freed route.spec.producer answer helps.0 (sym begins.producer) mid.0 mid.1 in
-    let rest = tries_world means laws setup place route range producer more
-    (begins_helped means setup place route helper helped asking freed asker answer vain.step.seat_stays asked helps.0 helps.1) help.0 help.1 in (
+    let rest = tries_world means laws setup place route call range producer more
+    (begins_helped means setup place route helper helped asking freed asker answer vain.vain.step.seat_stays asked helps.0 helps.1) help.0 help.1 in (
       rest.0,
       rest.1,
       record {
         begins = rest.2.begins;
         tries = acts.Again count stopped was mid.0 help.0 rest.0
-            (round_is means laws setup place route helper old seat asking asker range vain begins was mid.0 told mid.1)
-            (vain_is means laws setup place route helper old seat asking asker range vain asked mid.0 mid.1 mid.2)
+            (round_is means laws setup place route helper old seat asking asker range vain.vain begins was mid.0 told mid.1)
+            (vain_is means laws setup place route helper old seat asking asker range vain.vain asked mid.0 mid.1 mid.2)
+            (holds_none call (writer was place).begun (λ is. subst (λ (v : WriterView). NoneHeld v.begun)
+            (sym (row_is means laws old was told place seat begins.sits begins.place_is)) (vain.none_held is)))
             (subst (λ (p : ℕ). Collects setup p mid.0 help.0) producer (subst (λ (s : Setup). Collects s route.spec.producer mid.0 help.0) asked.setup_is help.2))
             (laws.told_owned freed help.0 help.1) rest.2.tries;
         full = rest.2.full;
       },
     )
-tries_world means laws setup place route range producer (Ends helper old seat new after vain) begins was told =
-    let next = vain.none_free was told in
-    let behind = begins_out means setup place route helper old seat new after vain begins in (
+tries_world means laws setup place route call range producer (Ends helper old seat new after vain) begins was told =
+    let next = vain.vain.none_free was told in
+    let behind = begins_out means setup place route helper old seat new after vain.vain begins in (
       next.0,
       next.1,
       record {
         begins = behind;
-        tries = acts.Ends was next.0 (round_is means laws setup place route helper old seat new after range vain begins was next.0 told next.1)
-            (vain_is means laws setup place route helper old seat new after range vain behind next.0 next.1 next.2);
+        tries = acts.Ends was next.0 (round_is means laws setup place route helper old seat new after range vain.vain begins was next.0 told next.1)
+            (vain_is means laws setup place route helper old seat new after range vain.vain behind next.0 next.1 next.2);
         full = λ stops. next.2;
       },
     )
@@ -396,11 +411,11 @@ tries_world means laws setup place route range producer (Ends helper old seat ne
 lost_is : {T W S : Type 0} (means : Meaning T W S) → AreLaws means → (setup : Setup) (place : ℕ) (route : Route) (call : Call) → MayNeedChunk call
     → (policy : WriterPolicy) → policy_of setup place ≡ policy → loses policy ≡ true → (left : Collecting S) (mid : T) (between : W) (new : T) (after : W)
     → IsQuiet means mid between new after → Begins means setup place route left mid between → (was last is : World)
-    → means.told mid ≡ Some last → means.told new ≡ Some is → acts.Tries setup place (asks_for policy) true was last
+    → means.told mid ≡ Some last → means.told new ≡ Some is → acts.Tries setup place call (asks_for policy) true was last
     → acts.Works setup place call true was is
 lost_is means laws setup place route call may policy policy_is losing left mid between new after quiet begins was last is told_last told_is tries =
     acts.Lost was was last is may (ap loses policy_is ∙ losing) (leaves_none place was)
-    (subst (λ (p : WriterPolicy). acts.Tries setup place (asks_for p) true was last) (sym policy_is) tries)
+    (subst (λ (p : WriterPolicy). acts.Tries setup place call (asks_for p) true was last) (sym policy_is) tries)
     (quiet_leaves means laws setup place route left mid between new after quiet begins last is told_last told_is)
     (ap (λ (v : WriterView). v.asked) (row_is means laws new is told_is place after quiet.step.seat_stays (quiet.step.place_stays ∙ begins.place_is))
     ∙ quiet.asked
@@ -411,7 +426,7 @@ pub works_world : {T W S : Type 0} (means : Meaning T W S) → AreLaws means →
     → range_of setup (producer_of setup place) ≡ range_in route.arbiter → route.spec.producer ≡ producer_of setup place → route.spec.policy ≡ policy_of setup place
     → (last : T → W → T → W → Type 0) → ((old : T) (seat : W) (new : T) (after : W) → last old seat new after → IsQuiet means old seat new after)
     → {helper : Collecting S} {old : T} {seat : W} {stopped : Bool} {left : Collecting S} {new : T} {after : W}
-    → Works route.spec.policy (IsSilent means) last (GetsChunk means route) (IsInVain means route) (IsOutNow means route)
+    → Works route.spec.policy (IsSilent means) last (GetsChunk means route) (IsVainTry means route (begins_one call)) (IsOutNow means route)
     (λ asked table answer behind freed. Helps means asked table route.spec.producer answer behind freed × LeavesWriters means table freed)
     helper old seat stopped left new after
     → refuses route.spec.policy stopped ≡ false → Begins means setup place route helper old seat
@@ -477,7 +492,7 @@ works_world means laws setup place route call may range producer policy last qui
       },
     )
 works_world means laws setup place route call may range producer policy last quiet (Tried helper old seat tries kept next moved stopped left new after trying tried works) going begins was told =
-    let mid = tries_world means laws setup place route range producer tried begins was told in
+    let mid = tries_world means laws setup place route call range producer tried begins was told in
     let rest = works_world means laws setup place route call may range producer policy last quiet works going mid.2.begins mid.0 mid.1 in (
       rest.0,
       rest.1,
@@ -488,7 +503,7 @@ works_world means laws setup place route call may range producer policy last qui
     )
 works_world means laws setup place route call may range producer policy last quiet (GivesUp helper old seat tries left mid between new after trying tried ends) going begins was told =
     let step = quiet mid between new after ends in
-    let middle = tries_world means laws setup place route range producer tried begins was told in
+    let middle = tries_world means laws setup place route call range producer tried begins was told in
     let next = step.frees_none middle.0 middle.1 in (
       next.0,
       next.1,

@@ -23,7 +23,7 @@ use Rattle.trace_writer.specs.Asked.{begun_as, written_as}
 use Rattle.trace_writer.specs.Core.{CoreAgrees, is_stalled, route_of}
 use Rattle.trace_writer.specs.Helping.{LeavesOthers, LeavesWriters, Works, loses, rounds_for}
 use Rattle.trace_writer.specs.Losing.{LosesBehind}
-use Rattle.trace_writer.specs.OwnSteps.{IsQuiet, IsSilent, GetsChunk, IsInVain, IsOutNow}
+use Rattle.trace_writer.specs.OwnSteps.{IsQuiet, IsSilent, GetsChunk, IsVainTry, IsOutNow}
 use Rattle.service_core.specs.declared.service.ServiceCore.{ServiceCore}
 use Rattle.service_core.specs.Agreement.{KeepsRest}
 use Rattle.replay_model.specs.Does.{MayNeedChunk, Asks}
@@ -55,6 +55,11 @@ AreReady {T} {W} means table cores coming = (place : ℕ) (core : WriterCore W) 
 
 -- ---- what it does
 
+-- whether the call begins a packet
+abbrev pub begins_one : Call → Bool
+begins_one (Begun kept) = true
+begins_one call = false
+
 -- what is noted of a call, where its writer stops since no chunk is to be had, and else
 abbrev pub noted_as : Bool → WriterPolicy → Call → List Call
 noted_as stopped policy (Begun kept) = begun_as stopped policy
@@ -73,7 +78,7 @@ pub record IsCalled {H T W S : Type 0} (means : Meaning T W S) (needs : H → T 
   pub lost : stopped ≡ true → LosesBehind (means.setup old) (range_in (route_of core).arbiter) (rounds_for (route_of core).spec.policy)
       (means.view old core.seat) (means.view new after.seat)
   pub asks : MayNeedChunk call ⊎ ((stopped ≡ false) × IsQuiet means old core.seat new after.seat)
-  pub works : Works (route_of core).spec.policy (IsSilent means) (IsQuiet means) (GetsChunk means (route_of core)) (IsInVain means (route_of core)) (IsOutNow means (route_of core))
+  pub works : Works (route_of core).spec.policy (IsSilent means) (IsQuiet means) (GetsChunk means (route_of core)) (IsVainTry means (route_of core) (begins_one call)) (IsOutNow means (route_of core))
       (λ asked table answer behind freed. helps asked table (route_of core).spec.producer answer behind freed × LeavesWriters means table freed)
       helper old core.seat stopped left new after.seat
   pub notes : (means.view new after.seat).calls ≡ (means.view old core.seat).calls ++ noted_as stopped (route_of core).spec.policy call
@@ -88,7 +93,7 @@ pub record IsStalledCall {H T W S : Type 0} (means : Meaning T W S) (needs : H �
   pub halted : is_stalled after ≡ true
   pub needed : needs left new
   pub others : LeavesOthers means old core.seat new after.seat
-  pub works : Works (route_of core).spec.policy (IsSilent means) (IsQuiet means) (GetsChunk means (route_of core)) (IsInVain means (route_of core)) (IsOutNow means (route_of core))
+  pub works : Works (route_of core).spec.policy (IsSilent means) (IsQuiet means) (GetsChunk means (route_of core)) (IsVainTry means (route_of core) (begins_one call)) (IsOutNow means (route_of core))
       (λ asked table answer behind freed. helps asked table (route_of core).spec.producer answer behind freed × LeavesWriters means table freed)
       helper old core.seat true left new after.seat
   pub notes : (means.view new after.seat).calls ≡ (means.view old core.seat).calls ++ noted_as true Stalls call

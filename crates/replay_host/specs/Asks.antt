@@ -10,7 +10,8 @@ use Rattle.chunk_plain.specs.Meaning.{Meaning}
 use Rattle.replay_model.specs.Acts.{asks}
 use Rattle.replay_model.specs.Schedule.{acts_of, is_due_after}
 use Rattle.replay_host.specs.declared.host.Host.{Host}
-use Rattle.replay_host.specs.Lines.{request_count, Moment, ComesNext}
+use Rattle.replay_model.specs.Flushes.{request_count}
+use Rattle.replay_host.specs.Lines.{Moment, ComesNext}
 
 -- the line asks the writer at this place for these calls, and no other writer for any; it is no flush request, and closes no producer
 pub record AsksFor (line : LineKind) (place : ℕ) (calls : List Call) : Type 0 where

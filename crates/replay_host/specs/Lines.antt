@@ -6,8 +6,6 @@ use Rattle.trace_model.specs.Calls.{Call, Flushed}
 use Rattle.trace_model.specs.Packets.{packets_of, is_writing}
 use Rattle.model_laws.specs.Losses.{Loses}
 use Rattle.session_core.specs.declared.answers.SessionState.TheVariants.{Started}
-use Rattle.scenario_text.specs.declared.scenario.LineKind.{LineKind}
-use Rattle.scenario_text.specs.declared.scenario.LineKind.TheVariants.{Request}
 use Rattle.scenario_text.specs.declared.scenario.NumberedLine.{NumberedLine}
 use Rattle.scenario_text.specs.Scenario.{Parts}
 use Rattle.scenario_text.specs.Accepted.{calls_asked, is_closed_by}
@@ -15,7 +13,7 @@ use Rattle.scenario_text.specs.Reach.{IsInReach}
 use Rattle.chunk_plain.specs.Meaning.{Meaning}
 use Rattle.trace_writer.specs.declared.writer.WriterCore.{WriterCore}
 use Rattle.service_core.specs.Agreement.{first_of, spec_at}
-use Rattle.replay_model.specs.Flushes.{FlushNote}
+use Rattle.replay_model.specs.Flushes.{FlushNote, requests_in}
 use Rattle.replay_model.specs.Played.{IsSetupOf, buffers_of}
 use Rattle.replay_model.specs.Schedule.{is_due, acts_of}
 use Rattle.replay_host.specs.declared.host.Host.{Host}
@@ -26,16 +24,6 @@ use Rattle.replay_host.specs.Tally.{IsTally}
 -- a request's number has 32 bits
 abbrev pub MOST_REQUESTS : ℕ
 MOST_REQUESTS = 4294967295
-
--- one for a line that makes a flush request
-abbrev pub request_count : LineKind → ℕ
-request_count Request = 1
-request_count other = 0
-
--- how many flush requests these lines make
-abbrev pub requests_in : List NumberedLine → ℕ
-requests_in [] = 0
-requests_in (line ∷ lines) = request_count line.what + requests_in lines
 
 -- no line of these closes the producer of the writer at this place
 abbrev pub is_open_at : Parts → List NumberedLine → (place : ℕ) → Bool

@@ -13,13 +13,13 @@ use Rattle.chunk_plain.specs.Owned.{IsOwned}
 use Rattle.chunk_plain.specs.Setup.{Setup, IsChunkOf, producer_of}
 use Rattle.chunk_plain.specs.Steps.{serviced}
 use Rattle.chunk_plain.specs.Views.{Draft, ServiceView}
-use Rattle.chunk_plain.specs.World.{World, Writing, status}
+use Rattle.chunk_plain.specs.World.{World, Writing, status, writer}
 use Rattle.trace_writer.specs.declared.writer.WriterCore.{WriterCore}
 use Rattle.service_core.specs.Agreement.{first_of}
 use Rattle.service_core.specs.Reading.{reads_in, noted_read, FailsAmong}
 use Rattle.service_core.specs.Taking.{noted_more}
 use Rattle.replay_model.specs.Acts.{Act, Ask, ReadAll}
-use Rattle.replay_model.specs.Does.{MayNeedChunk, IsOut, Works, LeavesRest, Collects, Reads, policy_of}
+use Rattle.replay_model.specs.Does.{MayNeedChunk, IsOut, Works, LeavesRest, GoesRound, Collects, Reads, policy_of}
 use Rattle.replay_model.specs.Flushes.{FlushNote}
 use Rattle.replay_model.specs.Plays.{Plays}
 use Rattle.replay_host.specs.declared.fault.HostFault.{HostFault}
@@ -35,20 +35,24 @@ abbrev pub AreOthers : Setup → (producer place : ℕ) → World → Type 0
 AreOthers setup producer place world = (chunk : ℕ) → IsChunkOf setup producer chunk
     → (other id : ℕ) × (draft : Draft) × (status world chunk ≡ Writing other id draft) × (other ≢ place)
 
--- The writer stalls in the call that it was asked for: it has the policy to, and asks for a last help where it is out of chunks. The help
--- takes nothing, and each of its producer's chunks is being written by other writers then. They were before the call already. Each chunk is
--- owned by exactly one in each of these worlds.
+-- The writer stalls in the call that it was asked for: it has the policy to, and asks for a last help where it is out of chunks, behind a
+-- round of claims in vain of its own. The help takes nothing, and behind it the writer claims no more. Each of its producer's chunks is being
+-- written by other writers then. They were before the call already. Each chunk is owned by exactly one in each of these worlds.
 pub record StallsIn (setup : Setup) (place : ℕ) (call : Call) (old new : World) : Type 0 where
   pub may : MayNeedChunk call
   pub policy_is : policy_of setup place ≡ policies.Stalls
+  -- before its last round, behind it, and behind the help
+  pub trying : World
   pub asking : World
   pub kept : World
-  pub works : Works setup place call false old asking
+  pub works : Works setup place call false old trying
+  pub round : GoesRound setup place trying asking
   pub out : IsOut setup place asking
   pub collects : Collects setup (producer_of setup place) asking kept
   pub none : collects.taken ≡ 0
   pub owned_kept : ∥ IsOwned kept ∥₁
   pub own : LeavesRest place kept new
+  pub asked : (writer new place).asked ≡ (writer kept place).asked
   pub owned : ∥ IsOwned new ∥₁
   pub stuck : AreOthers setup (producer_of setup place) place new
   pub before : AreOthers setup (producer_of setup place) place old

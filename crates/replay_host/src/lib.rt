@@ -27,5 +27,5 @@ pub use fields::call_of_node;
 pub use flushes::Flushes;
 pub use helper::Collecting;
 pub use host::Host;
-pub use making::{buffer_specs, make_host, producer_specs};
+pub use making::{buffer_specs, count_requests, make_host, producer_specs};
 pub use replaying::replay;

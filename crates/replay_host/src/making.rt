@@ -7,7 +7,7 @@ ghost use Rattle.scenario_text.specs.Scenario.{IsScenario, parts_of};
 ghost use Rattle.chunk_plain.specs.Laying.{setup_of};
 ghost use Rattle.chunk_plain.specs.Setup.{HasProducer, producer_of};
 ghost use Rattle.replay_model.specs.Played.{IsSpecOf};
-ghost use Rattle.replay_host.specs.Lines.{requests_in};
+ghost use Rattle.replay_model.specs.Flushes.{requests_in};
 ghost use Rattle.replay_host.specs.Making.{IsMade, IsNewcomer, buffer_asked};
 
 use crate::flushes::Flushes;
@@ -69,7 +69,7 @@ pub fn buffer_specs(alloc: Global, buffers: &[BufferLine]) -> Result<Vec<BufferS
 }
 
 /// How many flush requests the lines make.
-fn count_requests(lines: &LineList) -> usize
+pub fn count_requests(lines: &LineList) -> usize
     ensures { result ≡ requests_in lines.now }
 {
     // There are no more than can be counted.

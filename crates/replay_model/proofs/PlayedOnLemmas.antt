@@ -72,10 +72,10 @@ own_collects setup producer old asking freed leaves sorted collects =
     grow_both old.service asking.service freed.service (own_grows old asking leaves)
     (collects_grow setup producer asking freed (own_sorted setup old asking leaves sorted) collects)
 
-tries_grow : (setup : Setup) (place : ℕ) {left : ℕ} {stopped : Bool} (old new : World) → Tries setup place left stopped old new → IsSorted setup old.service
+tries_grow : (setup : Setup) (place : ℕ) {call : Call} {left : ℕ} {stopped : Bool} (old new : World) → Tries setup place call left stopped old new → IsSorted setup old.service
     → Grows old.service new.service
 tries_grow setup place old new (Gains left chunk _ _ leaves claims) sorted = own_grows old new leaves
-tries_grow setup place old new (Again left stopped _ asking freed _ round vain collects owned rest) sorted =
+tries_grow setup place old new (Again left stopped _ asking freed _ round vain holds collects owned rest) sorted =
     grow_both old.service freed.service new.service (own_collects setup _ old asking freed round.leaves sorted collects)
     (tries_grow setup place freed new rest (sorted_collects setup _ asking freed (own_sorted setup old asking round.leaves sorted) collects))
 tries_grow setup place old new (Ends _ _ round vain) sorted = own_grows old new round.leaves

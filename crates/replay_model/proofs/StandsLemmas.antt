@@ -34,10 +34,10 @@ taken_others : (setup : Setup) (producer : ℕ) (old new : World) → Collects s
 taken_others setup producer old new collects other = ap (λ (ws : List WriterView). get_or ws other newcomer) collects.writers
 
 -- a writer's work leaves the other writers, and the notes in order
-tries_others : (setup : Setup) (place : ℕ) {left : ℕ} {stopped : Bool} (old new : World) → Tries setup place left stopped old new → (other : ℕ) → other ≢ place
+tries_others : (setup : Setup) (place : ℕ) {call : Call} {left : ℕ} {stopped : Bool} (old new : World) → Tries setup place call left stopped old new → (other : ℕ) → other ≢ place
     → writer new other ≡ writer old other
 tries_others setup place old new (Gains left chunk _ _ leaves claims) other differs = leaves.writers other differs
-tries_others setup place old new (Again left stopped _ asking freed _ round vain collects owned rest) other differs =
+tries_others setup place old new (Again left stopped _ asking freed _ round vain holds collects owned rest) other differs =
     tries_others setup place freed new rest other differs ∙ taken_others setup _ asking freed collects other ∙ round.leaves.writers other differs
 tries_others setup place old new (Ends _ _ round vain) other differs = round.leaves.writers other differs
 
@@ -55,10 +55,10 @@ works_others setup place old new (Lost _ before last _ may losing leaves tried e
 pub own_sorted : (setup : Setup) {place : ℕ} (old new : World) → LeavesRest place old new → IsSorted setup old.service → IsSorted setup new.service
 own_sorted setup old new leaves sorted = subst (IsSorted setup) (sym leaves.service) sorted
 
-pub tries_sorted : (setup : Setup) (place : ℕ) {left : ℕ} {stopped : Bool} (old new : World) → Tries setup place left stopped old new → IsSorted setup old.service
+pub tries_sorted : (setup : Setup) (place : ℕ) {call : Call} {left : ℕ} {stopped : Bool} (old new : World) → Tries setup place call left stopped old new → IsSorted setup old.service
     → IsSorted setup new.service
 tries_sorted setup place old new (Gains left chunk _ _ leaves claims) sorted = own_sorted setup old new leaves sorted
-tries_sorted setup place old new (Again left stopped _ asking freed _ round vain collects owned rest) sorted =
+tries_sorted setup place old new (Again left stopped _ asking freed _ round vain holds collects owned rest) sorted =
     tries_sorted setup place freed new rest (sorted_collects setup _ asking freed (own_sorted setup old asking round.leaves sorted) collects)
 tries_sorted setup place old new (Ends _ _ round vain) sorted = own_sorted setup old new round.leaves sorted
 

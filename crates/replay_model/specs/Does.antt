@@ -11,7 +11,7 @@ use Rattle.trace_model.specs.Packets.{packets_of, account_of, is_writing}
 use Rattle.chunk_plain.specs.Owned.{IsOwned}
 use Rattle.chunk_plain.specs.Setup.{Setup, range_of, producer_of, sequence_of}
 use Rattle.chunk_plain.specs.Views as views
-use Rattle.chunk_plain.specs.Views.{Look, Noted, Closed, ServiceView, WriterView}
+use Rattle.chunk_plain.specs.Views.{Look, Noted, Closed, BegunChunk, ServiceView, WriterView}
 use Rattle.chunk_plain.specs.World.{World, writer}
 use Rattle.chunk_plain.specs.Histories.{completed_images, history_of}
 use Rattle.claim_arbiter.specs.Claiming.{NoneFree, AllClaimed, ClaimsInTurn, lost_asks}
@@ -25,7 +25,7 @@ use Rattle.trace_writer.specs.Helping.{loses, rounds_for}
 use Rattle.trace_writer.specs.Laws.{IsHeldImage}
 use Rattle.trace_writer.specs.Losing.{LosesBehind}
 use Rattle.trace_writer.specs.Outcomes.{NewestIsWhole}
-use Rattle.trace_writer.specs.OwnSteps.{NoneHeld}
+use Rattle.trace_writer.specs.OwnSteps.{KeepsChunks, NoneHeld}
 use Rattle.service_core.specs.Agreement.{spec_at, AreKnownNotes}
 use Rattle.service_core.specs.Closing.{TakesAndCloses}
 use Rattle.service_core.specs.Reading.{reads_in, noted_read}
@@ -126,8 +126,8 @@ pub record IsOut (setup : Setup) (place : ℕ) (world : World) : Type 0 where
   pub vain : IsVainIn setup place world
   pub none_held : NoneHeld (writer world place).begun
 
--- One whole round of claims in vain, and no call is noted: the writer at this place asks for each chunk of its producer, once each and in
--- rising order, and finds each claimed.
+-- One whole round of claims in vain: the writer at this place asks for each chunk of its producer, once each and in rising order, and finds
+-- each claimed. It notes no call and begins no chunk; one that it held may be completed.
 pub record GoesRound (setup : Setup) (place : ℕ) (old new : World) : Type 0 where
   pub leaves : LeavesRest place old new
   -- the page words that its claims found
@@ -137,6 +137,7 @@ pub record GoesRound (setup : Setup) (place : ℕ) (old new : World) : Type 0 wh
   pub asked : (writer new place).asked
       ≡ (writer old place).asked ++ lost_asks (length (writer old place).calls) (range_of setup (producer_of setup place)).first words
   pub calls : (writer new place).calls ≡ (writer old place).calls
+  pub chunks : KeepsChunks (writer old place).begun (writer new place).begun
 
 -- how often a writer with this policy asks for a help, for one chunk, before it loses its packet
 abbrev pub asks_for : WriterPolicy → ℕ
@@ -144,16 +145,23 @@ asks_for Drops = 0
 asks_for Stalls = 0
 asks_for (StallsThenDrops tries) = tries
 
+-- at a packet's begin no chunk is held
+abbrev pub HoldsNoneAt : Call → List BegunChunk → Type 0
+HoldsNoneAt (Begun kept) begun = NoneHeld begun
+HoldsNoneAt other begun = Unit {0}
+
 -- The writer at this place tries for one chunk, with so many asks left: behind a round of claims in vain its producer's complete chunks
--- are taken, and it claims again, whatever that took. It gets a chunk (false), or the round behind its last ask was in vain too (true).
-pub data Tries (setup : Setup) (place : ℕ) : ℕ → Bool → World → World → Type 0 where
+-- are taken, and it claims again, whatever that took. At a packet's begin it holds none while it asks. It gets a chunk (false), or the
+-- round behind its last ask was in vain too (true).
+pub data Tries (setup : Setup) (place : ℕ) (call : Call) : ℕ → Bool → World → World → Type 0 where
   Gains : (left chunk : ℕ) (old new : World) → LeavesRest place old new
       → ClaimsInTurn setup (range_of setup (producer_of setup place)).first (range_of setup (producer_of setup place)).count chunk
-      (writer old place) (writer new place) → Tries setup place left false old new
+      (writer old place) (writer new place) → Tries setup place call left false old new
   Again : (left : ℕ) (stopped : Bool) (old asking freed new : World) → GoesRound setup place old asking → IsVainIn setup place asking
-      → Collects setup (producer_of setup place) asking freed → ∥ IsOwned freed ∥₁ → Tries setup place left stopped freed new
-      → Tries setup place (suc left) stopped old new
-  Ends : (old new : World) → GoesRound setup place old new → IsVainIn setup place new → Tries setup place zero true old new
+      → HoldsNoneAt call (writer old place).begun
+      → Collects setup (producer_of setup place) asking freed → ∥ IsOwned freed ∥₁ → Tries setup place call left stopped freed new
+      → Tries setup place call (suc left) stopped old new
+  Ends : (old new : World) → GoesRound setup place old new → IsVainIn setup place new → Tries setup place call zero true old new
 
 -- What a call is done by: steps of the writer and, where the call may need a chunk, the taking of its producer's complete chunks, each
 -- behind a round of claims in vain of its own. Where the writer is one that stalls and is out of chunks, this takes some. Where it is one
@@ -166,10 +174,10 @@ pub data Works (setup : Setup) (place : ℕ) (call : Call) : Bool → World → 
       → IsOut setup place asking → Collects setup (producer_of setup place) asking freed → ∥ IsOwned freed ∥₁
       → freed.service.events ≢ asking.service.events → Works setup place call stopped freed new → Works setup place call stopped old new
   Tried : (stopped : Bool) (old before gained new : World) (tries : ℕ) → MayNeedChunk call → policy_of setup place ≡ StallsThenDrops tries
-      → LeavesRest place old before → Tries setup place tries false before gained → Works setup place call stopped gained new
+      → LeavesRest place old before → Tries setup place call tries false before gained → Works setup place call stopped gained new
       → Works setup place call stopped old new
   Lost : (old before last new : World) → MayNeedChunk call → loses (policy_of setup place) ≡ true → LeavesRest place old before
-      → Tries setup place (asks_for (policy_of setup place)) true before last → LeavesRest place last new
+      → Tries setup place call (asks_for (policy_of setup place)) true before last → LeavesRest place last new
       → (writer new place).asked ≡ (writer last place).asked → Works setup place call true old new
 
 -- what is noted where no chunk is free: the packet is dropped at its begin, or given up

@@ -4,7 +4,20 @@ use Rattle.trace_model.specs.Packets.{packets_of, is_writing}
 use Rattle.chunk_plain.specs.Views.{Taken}
 use Rattle.chunk_plain.specs.World.{World, writer}
 use Rattle.chunk_plain.specs.Histories.{completed_images}
+use Rattle.scenario_text.specs.declared.scenario.LineKind.{LineKind}
+use Rattle.scenario_text.specs.declared.scenario.LineKind.TheVariants as line
+use Rattle.scenario_text.specs.declared.scenario.NumberedLine.{NumberedLine}
 use Rattle.replay_model.specs.Acts.{Act, Request, Answer}
+
+-- one for a line that makes a flush request
+abbrev pub request_count : LineKind → ℕ
+request_count line.Request = 1
+request_count other = 0
+
+-- how many flush requests these lines make
+abbrev pub requests_in : List NumberedLine → ℕ
+requests_in [] = 0
+requests_in (one ∷ lines) = request_count one.what + requests_in lines
 
 -- a flush request was made; or the writer at this place answered the newest one, and had completed so many chunks
 pub data FlushNote : Type 0 where

@@ -97,11 +97,14 @@ printed counts = record {
   cut = counts.cut;
 }
 
--- the report of a world, with the flush requests that were made on the way to it
+-- the report of a world, with one number for each flush request
+abbrev pub report_with : Parts → Setup → World → (sums : List ℕ) → List ℕ
+report_with scenario setup world sums =
+    report_text (map answers.counts_of (buffers_in scenario setup world)) (map printed (packet_counts scenario setup world)) sums
+
+-- with the flush requests that were made on the way to it
 abbrev pub report_of : Parts → Setup → World → List FlushNote → List ℕ
-report_of scenario setup world notes =
-    report_text (map answers.counts_of (buffers_in scenario setup world)) (map printed (packet_counts scenario setup world))
-    (flush_sums notes world.service.taken)
+report_of scenario setup world notes = report_with scenario setup world (flush_sums notes world.service.taken)
 
 -- each writer's packets are counted once
 abbrev pub AreBalanced : List PacketCounts → Type 0

@@ -1,5 +1,5 @@
 use Rattle.std.proofs.Common.{◌≡◌, ◌+◌, ◌≤◌, length}
-use Rattle.replay_host.specs.Lines.{requests_in}
+use Rattle.replay_model.specs.Flushes.{requests_in}
 use Rattle.replay_host.proofs.making.count_requests.Given as goal
 
 abbrev pub invariant-lines : goal.invariant-lines
