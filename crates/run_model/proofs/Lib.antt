@@ -1,6 +1,7 @@
 pub mod InTurnLemmas
 pub mod OrderLemmas
 pub mod AskedLemmas
+pub mod AnsweredLemmas
 pub mod ChunkLemmas
 pub mod CompleteLemmas
 pub mod CountLemmas
@@ -12,4 +13,6 @@ pub mod VainLemmas
 pub mod FreshLemmas
 pub mod FirstKeptLemmas
 pub mod WorkedLemmas
+pub mod WorkedAnswersLemmas
 pub mod BehindLemmas
+pub mod FlushLemmas

@@ -1,7 +1,6 @@
--- A schedule leads to what was done in a run, and each claim in vain of it was made where somebody had the chunk.
-use Rattle.std.proofs.Common.{◌≡◌, inl, inr, Bool, List, ◌++◌, get_or, sym, subst}
+-- A schedule leads to what was done in a run, by way of the marked world, and each claim in vain of it was made where somebody had the chunk.
+use Rattle.std.proofs.Common.{◌≡◌, Bool, List, ◌++◌, get_or, sym, subst}
 use Rattle.std.proofs.Math.Logic.{∥∥₁_elim, ∥∥₁_map₂}
-use Rattle.trace_model.specs.Delivery.{Delivered}
 use Rattle.chunk_plain.specs.Setup.{Setup}
 use Rattle.chunk_plain.specs.Views.{At, WriterView, newcomer}
 use Rattle.chunk_plain.specs.World.{World}
@@ -13,28 +12,28 @@ use Rattle.chunk_schedules.proofs.VainLemmas.{claims_in_vain_find_had}
 use Rattle.scenario_text.specs.Scenario.{Parts}
 use Rattle.run_model.specs.Laws.{LosesWhereHad, LostClaimsFindHad}
 use Rattle.run_model.specs.Settled.{HasDoneAll}
-use Rattle.run_model.specs.Stopped.{StopsBefore}
 
-loses_where_had : (scenario : Parts) (setup : Setup) (world : World) (closed : Bool) → HasDoneAll scenario setup world closed → LosesWhereHad setup world
-loses_where_had scenario setup world closed done place number ask at lost =
+loses_where_had : (scenario : Parts) (setup : Setup) (world : World) (closed : Bool) (done : HasDoneAll scenario setup world closed)
+    → LosesWhereHad setup done.stood world
+loses_where_had scenario setup world closed done =
     ∥∥₁_elim done.leads squash₁ (λ (goes : (other : World) × Leads done.stood other × (other.writers ≡ world.writers) × (other.service ≡ world.service)).
     ∥∥₁_map₂ done.reached goes.1
     (λ (first : (moves : List Move) × IsSchedule (first_world setup) moves done.stood) (then : (moves : List Move) × IsSchedule done.stood moves goes.0).
     let schedule = schedules_join.both (first_world setup) done.stood goes.0 first.0 then.0 first.1 then.1 in (
-      first.0 ++ then.0,
+      first.0,
+      then.0,
       goes.0,
-      claims_in_vain_find_had setup (first.0 ++ then.0) goes.0 schedule place number ask
-          (subst (λ (views : List WriterView). At (get_or views place newcomer).asked number ask) (sym goes.2) at) lost,
+      first.1,
+      then.1,
       goes.2,
       goes.3,
+      λ place number ask at lost. claims_in_vain_find_had setup (first.0 ++ then.0) goes.0 schedule place number ask
+          (subst (λ (views : List WriterView). At (get_or views place newcomer).asked number ask) (sym goes.2) at) lost,
     )))
 
 pub lost_claims_find_had : LostClaimsFindHad
 lost_claims_find_had = record {
   run = λ scenario setup world run. loses_where_had scenario setup world _ run.before.done;
-  stopped = stopped;
+  in_lines = λ scenario setup world next stops. loses_where_had scenario setup world _ stops.done;
+  in_end = λ scenario setup world next stops. loses_where_had scenario setup world _ stops.before.done;
 }
-  where
-    stopped : (scenario : Parts) (setup : Setup) (world : World) (next : Delivered) → StopsBefore scenario setup world next → LosesWhereHad setup world
-    stopped scenario setup world next (inl lines) = loses_where_had scenario setup world _ lines.done
-    stopped scenario setup world next (inr ends) = loses_where_had scenario setup world _ ends.before.done

@@ -1,6 +1,8 @@
 -- Over one chunk that nobody has collected a packet is lost in each run that has two chunks' worth.
 use Rattle.std.proofs.Common.{◌≡◌, ◌∙◌, ℕ, zero, suc, ◌+◌, ◌*◌, ◌<◌, ◌≤◌, ◌⊎◌, inl, inr, Bool, true, false, List, [], ◌∷◌, ◌++◌, length, map, refl, sym, ap, subst, arith}
 use Rattle.std.specs.Prelude.{fold}
+use Rattle.std.proofs.Math.Logic.{∥∥₁_elim}
+use Rattle.std.proofs.Math.Nat.{ℕ_set}
 use Rattle.std.proofs.lemmas.Bool.{cases_eq}
 use Rattle.std.specs.List.{AllByRecursion, AllZip}
 use Rattle.trace_base.specs.declared.limits.TheConstants.{MAX_WRITERS}
@@ -13,6 +15,7 @@ use Rattle.field_tree.specs.Nodes.{Shown}
 use Rattle.page_geometry.specs.Sizes.{payload_size, chunk_size}
 use Rattle.chunk_plain.specs.declared.setup.ProducerSpec.{ProducerSpec}
 use Rattle.chunk_plain.specs.Laying.{setup_of}
+use Rattle.chunk_plain.specs.Letters.{AreLetters}
 use Rattle.chunk_plain.specs.Setup.{Setup, IsLaid, IsChunkOf, range_of, producer_of}
 use Rattle.chunk_plain.specs.Views.{At, BegunChunk, Held, Completed, Content}
 use Rattle.chunk_plain.specs.World.{World, writer}
@@ -22,11 +25,15 @@ use Rattle.world_model.specs.FirstBuffers.{payload_at}
 use Rattle.trace_writer.specs.Claims.{AreOwnChunks}
 use Rattle.scenario_text.specs.Limits.{IsSetUp, IsWriter}
 use Rattle.scenario_text.specs.Accepted.{calls_asked, line_calls, node_call}
+use Rattle.scenario_text.specs.Scenario.{Parts}
+use Rattle.replay_model.specs.Flushes.{requests_in}
 use Rattle.replay_model.specs.Played.{IsSpecOf}
 use Rattle.replay_model.proofs.AccountLemmas.{pages_begun}
 use Rattle.run_model.specs.Collected.{CollectedByLines, may_be_collected}
-use Rattle.run_model.specs.Settled.{HasDoneAll, IsRun}
-use Rattle.run_model.specs.Worked.{over_one_chunk, dropping, flushed_between, one_of_each, OneChunkHoldsOnePacket}
+use Rattle.run_model.specs.Noted.{done_calls}
+use Rattle.run_model.specs.Settled.{HasDoneAll, IsRun, last_flushes}
+use Rattle.run_model.specs.Worked.{over_one_chunk, dropping, stalling, two_packets, flushed_between, beside_idle, one_of_each, OneChunkHoldsOnePacket}
+use Rattle.run_model.proofs.AnsweredLemmas.{none_answered, out_none}
 use Rattle.run_model.proofs.AskedLemmas.{Flags, flag_after, flags_are, packet_flag, flags_behind}
 use Rattle.run_model.proofs.ChunkLemmas.{uses_once}
 use Rattle.run_model.proofs.FirstKeptLemmas.{BeginsFirst, begins_first, begun_first, first_of_two}
@@ -118,6 +125,19 @@ a_writer lines = record {
   tries = tt;
 }
 
+idle_writer : (lines : List NumberedLine) → IsWriter (over_one_chunk (dropping ∷ []) lines).buffers (over_one_chunk (dropping ∷ []) lines).producers stalling
+unfolding payload_size chunk_size
+idle_writer lines = record {
+  of_producer = record { pages = 1; page_size = 4096; chunks = 1 };
+  into_buffer = record { kb = 64; policy = Ring };
+  counts_producer = omega arith;
+  counts_buffer = omega arith;
+  producer_is = refl;
+  buffer_is = refl;
+  fits = omega arith;
+  tries = tt;
+}
+
 set_up : (writers : List WriterSpec) (lines : List NumberedLine) → length writers ≤ MAX_WRITERS
     → AllByRecursion (IsWriter (over_one_chunk writers lines).buffers (over_one_chunk writers lines).producers) writers
     → IsSetUp (over_one_chunk writers lines).buffers (over_one_chunk writers lines).producers writers
@@ -138,36 +158,63 @@ set_up writers lines few all = record {
   are_writers = all;
 }
 
+-- where no line asks for a flush, what a writer noted is what was asked of it
+asked_all : (scenario : Parts) (setup : Setup) (world : World) → IsRun scenario setup world → requests_in scenario.lines ≡ 0 → (place : ℕ) → place < length setup.writers
+    → done_calls (writer world place).calls ≡ calls_asked (suc place) scenario.lines ++ last_flushes
+asked_all scenario setup world run none place inside =
+    ap done_calls (sym (out_none (writer world place) nobody)) ∙ (run.before.done.writers place inside).asked
+  where
+    nobody : length (writer world place).letters.answers ≡ 0
+    nobody =
+        ∥∥₁_elim run.before.done.letters (ℕ_set (length (writer world place).letters.answers) 0)
+        (λ (are : AreLetters world). none_answered world place are (run.answered.requests ∙ none))
+
 -- ---- a flush between two packets
 
-flushed_flags : (first second : List Shown) → fold flag_after ([], false) (calls_asked 1 (flushed_between first second).lines ++ Flushed ∷ []) ≡ (true ∷ false ∷ [], true)
+flushed_flags : (at : ℕ) (first second : List Shown) → fold flag_after ([], false) (calls_asked 1 (two_packets at first second) ++ last_flushes) ≡ (true ∷ false ∷ [], true)
 unfolding line_calls
-flushed_flags first second =
+flushed_flags at first second =
     let one : List Call = Begun true ∷ map node_call first ++ Finished ∷ [] in let two : List Call = Begun true ∷ map node_call second ++ Finished ∷ [] in
-    flags_behind (one ++ (Flushed ∷ [] ++ (two ++ []))) (Flushed ∷ []) ([], false) (true ∷ false ∷ [], false)
+    flags_behind (one ++ (Flushed ∷ [] ++ (two ++ []))) last_flushes ([], false) (true ∷ false ∷ [], false)
     (flags_behind one (Flushed ∷ [] ++ (two ++ [])) ([], false) (false ∷ [], false) (packet_flag first ([], false))
     ∙ flags_behind two [] (false ∷ [], true) (true ∷ false ∷ [], false) (packet_flag second (false ∷ [], true)))
 
-flushed : (first second : List Shown) (setup : Setup) (world : World) → IsRun (flushed_between first second) setup world
+-- whichever writers there are beside, where none of them asks for help
+flushed_beside : (others : List WriterSpec) (at : ℕ) (first second : List Shown) (setup : Setup) (world : World)
+    → IsRun (over_one_chunk (dropping ∷ others) (two_packets at first second)) setup world
+    → IsSetUp (over_one_chunk (dropping ∷ others) (two_packets at first second)).buffers (over_one_chunk (dropping ∷ others) (two_packets at first second)).producers (dropping ∷ others)
+    → ((specs : List ProducerSpec) → may_be_collected (setup_of specs (dropping ∷ others)) (two_packets at first second) 1 ≡ false)
     → 0 < lost_count (packets_of (writer world 0).calls)
-flushed first second setup world run = by_count (cases_eq (lost_count (packets_of (writer world 0).calls)) 0)
+flushed_beside others at first second setup world run fits alone = by_count (cases_eq (lost_count (packets_of (writer world 0).calls)) 0)
   where
     by_count : (lost_count (packets_of (writer world 0).calls) ≡ 0) ⊎ (lost_count (packets_of (writer world 0).calls) ≡ 0 → ⊥)
         → 0 < lost_count (packets_of (writer world 0).calls)
     by_count (inr more) = omega (arith, more)
     by_count (inl none) =
-        let done = run.before.done in let lines = (flushed_between first second).lines in let writers = dropping ∷ [] in
+        let done = run.before.done in let lines = two_packets at first second in let writers = dropping ∷ others in
         let laid_is = done.setup_is.laid in
         let inside : 0 < length setup.writers = let many = ap (λ (s : Setup). length s.writers) laid_is in omega (arith, many) in
         let of_one : producer_of setup 0 ≡ 1 = ap (λ (s : Setup). producer_of s 0) laid_is in
-        let nobody : may_be_collected setup lines 1 ≡ false = ap (λ (s : Setup). may_be_collected s lines 1) laid_is in
-        let fits = set_up writers lines (omega arith) (a_writer lines, tt) in
-        let flags = flags_are (writer world 0).calls (calls_asked 1 lines ++ Flushed ∷ []) (done.writers 0 inside).asked
-        ∙ ap (λ (f : Flags). f.0) (flushed_flags first second) in
+        let nobody : may_be_collected setup lines 1 ≡ false = ap (λ (s : Setup). may_be_collected s lines 1) laid_is ∙ alone done.setup_is.specs in
+        let flags = flags_are (writer world 0).calls (calls_asked 1 lines ++ last_flushes) (asked_all (over_one_chunk writers lines) setup world run refl 0 inside)
+        ∙ ap (λ (f : Flags). f.0) (flushed_flags at first second) in
         let two = two_begun writers lines fits setup world _ done run.before.taken_by.collected 0 inside flags none in
         let same = one_entry writers lines fits setup world _ done run.before.taken_by.collected 0 0 0 1 inside inside of_one of_one nobody
         (omega (arith, two)) (omega (arith, two)) in
         absurd (let clash = same.1 in omega (arith, clash))
+
+flushed : (first second : List Shown) (setup : Setup) (world : World) → IsRun (flushed_between first second) setup world
+    → 0 < lost_count (packets_of (writer world 0).calls)
+flushed first second setup world run =
+    flushed_beside [] 4 first second setup world run (set_up (dropping ∷ []) (two_packets 4 first second) (omega arith) (a_writer (two_packets 4 first second), tt))
+    (λ specs. refl)
+
+idle : (first second : List Shown) (setup : Setup) (world : World) → IsRun (beside_idle first second) setup world
+    → 0 < lost_count (packets_of (writer world 0).calls)
+idle first second setup world run =
+    let lines = two_packets 5 first second in
+    flushed_beside (stalling ∷ []) 5 first second setup world run (set_up (dropping ∷ stalling ∷ []) lines (omega arith) (a_writer lines, (idle_writer lines, tt)))
+    (λ specs. refl)
 
 -- the first of them is begun: its writer is alone, and the second finds the chunk claimed
 first_kept : (first second : List Shown) (setup : Setup) (world : World) → IsRun (flushed_between first second) setup world
@@ -188,8 +235,9 @@ first_kept first second setup world run = by_packets (packets_of (writer world 0
     fits = set_up (dropping ∷ []) (flushed_between first second).lines (omega arith) (a_writer (flushed_between first second).lines, tt)
 
     flags : map (λ (packet : Packet). packet.follows_flush) (packets_of (writer world 0).calls) ≡ true ∷ false ∷ []
-    flags = flags_are (writer world 0).calls (calls_asked 1 (flushed_between first second).lines ++ Flushed ∷ []) (run.before.done.writers 0 inside).asked
-        ∙ ap (λ (f : Flags). f.0) (flushed_flags first second)
+    flags = flags_are (writer world 0).calls (calls_asked 1 (flushed_between first second).lines ++ last_flushes)
+        (asked_all (flushed_between first second) setup world run refl 0 inside)
+        ∙ ap (λ (f : Flags). f.0) (flushed_flags 4 first second)
 
     own : IsChunkOf setup (producer_of setup 0) 0
     own =
@@ -199,7 +247,7 @@ first_kept first second setup world run = by_packets (packets_of (writer world 0
         subst (λ (n : ℕ). IsChunkOf setup n 0) (sym of_one) (record { least = omega (arith, least); below = omega (arith, least, count) })
 
     begins : BeginsFirst (writer world 0).calls
-    begins = begins_first setup world 0 _ (run.before.done.writers 0 inside).vain (run.before.done.writers 0 inside).asked
+    begins = begins_first setup world 0 _ (run.before.done.writers 0 inside).vain (asked_all (flushed_between first second) setup world run refl 0 inside)
 
     kept : begins.kept ≡ true
     kept = begun_first (flushed_between first second) setup world _ run.before.done run.before.taken_by.collected (laid (dropping ∷ []) (flushed_between first second).lines fits setup world _ run.before.done run.before.taken_by.collected)
@@ -239,16 +287,16 @@ first_kept first second setup world run = by_packets (packets_of (writer world 0
 -- ---- a packet of each of two writers
 
 each_flags : (number : ℕ) (first second : List Shown) → (number ≡ 1) ⊎ (number ≡ 2)
-    → fold flag_after ([], false) (calls_asked number (one_of_each first second).lines ++ Flushed ∷ []) ≡ (false ∷ [], true)
+    → fold flag_after ([], false) (calls_asked number (one_of_each first second).lines ++ last_flushes) ≡ (false ∷ [], true)
 unfolding line_calls
 each_flags number first second (inl is) =
     let one : List Call = Begun true ∷ map node_call first ++ Finished ∷ [] in
-    ap (λ (n : ℕ). fold flag_after ([], false) (calls_asked n (one_of_each first second).lines ++ Flushed ∷ [])) is
-    ∙ flags_behind (one ++ []) (Flushed ∷ []) ([], false) (false ∷ [], false) (flags_behind one [] ([], false) (false ∷ [], false) (packet_flag first ([], false)))
+    ap (λ (n : ℕ). fold flag_after ([], false) (calls_asked n (one_of_each first second).lines ++ last_flushes)) is
+    ∙ flags_behind (one ++ []) last_flushes ([], false) (false ∷ [], false) (flags_behind one [] ([], false) (false ∷ [], false) (packet_flag first ([], false)))
 each_flags number first second (inr is) =
     let two : List Call = Begun true ∷ map node_call second ++ Finished ∷ [] in
-    ap (λ (n : ℕ). fold flag_after ([], false) (calls_asked n (one_of_each first second).lines ++ Flushed ∷ [])) is
-    ∙ flags_behind (two ++ []) (Flushed ∷ []) ([], false) (false ∷ [], false) (flags_behind two [] ([], false) (false ∷ [], false) (packet_flag second ([], false)))
+    ap (λ (n : ℕ). fold flag_after ([], false) (calls_asked n (one_of_each first second).lines ++ last_flushes)) is
+    ∙ flags_behind (two ++ []) last_flushes ([], false) (false ∷ [], false) (flags_behind two [] ([], false) (false ∷ [], false) (packet_flag second ([], false)))
 
 each : (first second : List Shown) (setup : Setup) (world : World) → IsRun (one_of_each first second) setup world
     → 0 < lost_count (packets_of (writer world 0).calls) + lost_count (packets_of (writer world 1).calls)
@@ -267,9 +315,9 @@ each first second setup world run = by_count (cases_eq (lost_count (packets_of (
         let to_one : producer_of setup 1 ≡ 1 = ap (λ (s : Setup). producer_of s 1) laid_is in
         let nobody : may_be_collected setup lines 1 ≡ false = ap (λ (s : Setup). may_be_collected s lines 1) laid_is in
         let fits = set_up writers lines (omega arith) (a_writer lines, (a_writer lines, tt)) in
-        let flags = flags_are (writer world 0).calls (calls_asked 1 lines ++ Flushed ∷ []) (done.writers 0 inside).asked
+        let flags = flags_are (writer world 0).calls (calls_asked 1 lines ++ last_flushes) (asked_all (one_of_each first second) setup world run refl 0 inside)
         ∙ ap (λ (f : Flags). f.0) (each_flags 1 first second (inl refl)) in
-        let other_flags = flags_are (writer world 1).calls (calls_asked 2 lines ++ Flushed ∷ []) (done.writers 1 within).asked
+        let other_flags = flags_are (writer world 1).calls (calls_asked 2 lines ++ last_flushes) (asked_all (one_of_each first second) setup world run refl 1 within)
         ∙ ap (λ (f : Flags). f.0) (each_flags 2 first second (inr refl)) in
         let one = one_begun writers lines fits setup world _ done run.before.taken_by.collected 0 inside flags (omega (arith, none)) in
         let other = one_begun writers lines fits setup world _ done run.before.taken_by.collected 1 within other_flags (omega (arith, none)) in
@@ -277,4 +325,4 @@ each first second setup world run = by_count (cases_eq (lost_count (packets_of (
         absurd (let clash = same.0 in omega (arith, clash))
 
 pub one_chunk_holds_one_packet : OneChunkHoldsOnePacket
-one_chunk_holds_one_packet = record { flushed = flushed; first_kept = first_kept; each = each }
+one_chunk_holds_one_packet = record { flushed = flushed; first_kept = first_kept; idle = idle; each = each }

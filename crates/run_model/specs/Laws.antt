@@ -8,6 +8,7 @@ use Rattle.chunk_plain.specs.Views.{At, Ask, Content, Completed}
 use Rattle.chunk_plain.specs.World.{World, writer}
 use Rattle.chunk_plain.specs.Plain.{first_world}
 use Rattle.chunk_schedules.specs.Moves.{Move}
+use Rattle.chunk_schedules.specs.Schedules.{IsSchedule}
 use Rattle.chunk_schedules.specs.Laws.{FindsHad}
 use Rattle.scenario_text.specs.declared.scenario.NumberedLine.{NumberedLine}
 use Rattle.scenario_text.specs.Scenario.{Parts}
@@ -17,7 +18,7 @@ use Rattle.replay_model.specs.Enough.{HasEnough, IsPlayable}
 use Rattle.replay_model.specs.Played.{records_in, packet_counts, AreBalanced, CountsPackets}
 use Rattle.run_model.specs.Collected.{may_be_collected}
 use Rattle.run_model.specs.Settled.{IsRun}
-use Rattle.run_model.specs.Stopped.{StopsBefore}
+use Rattle.run_model.specs.Stopped.{StopsBefore, StopsInLines, StopsInEnd}
 use Rattle.run_model.specs.Vain.{HasVainRounds}
 
 -- The records of a run are faithful to the packets that the lines have writers emit, whatever is lost on the way.
@@ -77,14 +78,19 @@ pub record NothingIsBegunBehindLosses : Type 0 where
   pub stopped : (scenario : Parts) (setup : Setup) (world : World) (next : Delivered) → StopsBefore scenario setup world next
       → BeginsNoneBehindLosses setup scenario.lines world
 
--- Each claim in vain is a move of a schedule that leads to what was done, made where somebody had the chunk.
-abbrev pub LosesWhereHad : Setup → World → Type 0
-LosesWhereHad setup world = (place number : ℕ) (ask : Ask) → At (writer world place).asked number ask → ask.won ≡ false
-    → ∥ ((moves : List Move) × (other : World) × FindsHad moves (first_world setup) other place number ask
-    × (other.writers ≡ world.writers) × (other.service ≡ world.service)) ∥₁
+-- Moves lead from a table as it is made to the world that is marked once the threads are done, and more moves on from it to what was done. Of all these
+-- moves, one behind the other, each claim in vain is one, made where somebody had the chunk.
+abbrev pub LosesWhereHad : Setup → (stood world : World) → Type 0
+LosesWhereHad setup stood world =
+    ∥ ((moves more : List Move) × (other : World) × IsSchedule (first_world setup) moves stood × IsSchedule stood more other
+    × (other.writers ≡ world.writers) × (other.service ≡ world.service)
+    × ((place number : ℕ) (ask : Ask) → At (writer world place).asked number ask → ask.won ≡ false
+    → FindsHad (moves ++ more) (first_world setup) other place number ask)) ∥₁
 
--- So it is in each run, whole or up to a write that failed.
+-- So it is in each run, whole or up to a write that failed, in the reads of its lines or in those of the end.
 pub record LostClaimsFindHad : Type 0 where
-  pub run : (scenario : Parts) (setup : Setup) (world : World) → IsRun scenario setup world → LosesWhereHad setup world
-  pub stopped : (scenario : Parts) (setup : Setup) (world : World) (next : Delivered) → StopsBefore scenario setup world next
-      → LosesWhereHad setup world
+  pub run : (scenario : Parts) (setup : Setup) (world : World) (is : IsRun scenario setup world) → LosesWhereHad setup is.before.done.stood world
+  pub in_lines : (scenario : Parts) (setup : Setup) (world : World) (next : Delivered) (stops : StopsInLines scenario setup world next)
+      → LosesWhereHad setup stops.done.stood world
+  pub in_end : (scenario : Parts) (setup : Setup) (world : World) (next : Delivered) (stops : StopsInEnd scenario setup world next)
+      → LosesWhereHad setup stops.before.done.stood world

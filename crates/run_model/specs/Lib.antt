@@ -1,4 +1,5 @@
 pub mod Noted
+pub mod Answered
 pub mod Reads
 pub mod Vain
 pub mod Scraped
@@ -7,4 +8,6 @@ pub mod Settled
 pub mod Stopped
 pub mod Runs
 pub mod Laws
+pub mod FlushLaws
 pub mod Worked
+pub mod WorkedAnswers

@@ -1,5 +1,5 @@
 -- The run of a scenario on threads, end to end: the account that its threads led to, and the trace and the report that are functions of it.
-use Rattle.std.specs.Prelude.{◌≡◌, ℕ, List, [], ◌∷◌, ◌++◌, Some, slice_get}
+use Rattle.std.specs.Prelude.{◌≡◌, ℕ, List, [], ◌∷◌, ◌++◌, length, Some, slice_get}
 use Rattle.byte_io.specs.Bytes.{Intake, after_told, TakesPart}
 use Rattle.trace_model.specs.Balance.{PacketCounts}
 use Rattle.trace_model.specs.Delivery.{Delivered, IsFaithful, IsComplete, trace_of}
@@ -8,19 +8,21 @@ use Rattle.chunk_plain.specs.World.{World}
 use Rattle.scenario_text.specs.Scenario.{Parts}
 use Rattle.scenario_text.specs.Emissions.{emitted_in}
 use Rattle.replay_model.specs.Enough.{HasEnough}
-use Rattle.replay_model.specs.Played.{records_in, packet_counts, report_of, AreBalanced, CountsPackets}
+use Rattle.replay_model.specs.Played.{records_in, packet_counts, report_with, AreBalanced, CountsPackets}
+use Rattle.run_model.specs.Answered.{run_sums}
 use Rattle.run_model.specs.Settled.{IsRun}
 use Rattle.run_model.specs.Stopped.{StopsBefore}
 
 -- The scenario was run: there is a world that its threads led to. The trace has taken that world's records and nothing else, and the text is its
--- report, without a flush request. The records are faithful to what the scenario has its writers emit, and the report counts every packet once, under
--- its cause. Where chunks and bytes are enough, by the lines alone, no packet is missing.
+-- report, with the chunks of each flush request by the answers that the service read. The records are faithful to what the scenario has its
+-- writers emit, and the report counts every packet once, under its cause. Where chunks and bytes are enough, by the lines alone, no packet is
+-- missing.
 pub record Runs (scenario : Parts) (old new : Intake) (text : List ℕ) : Type 0 where
   pub setup : Setup
   pub world : World
   pub run : IsRun scenario setup world
   pub trace : new ≡ after_told old (trace_of (records_in scenario setup world))
-  pub report : text ≡ report_of scenario setup world []
+  pub report : text ≡ report_with scenario setup world (run_sums (length setup.writers) world.service.letters)
   pub faithful : IsFaithful (emitted_in scenario) (records_in scenario setup world)
   pub balanced : AreBalanced (packet_counts scenario setup world)
   pub counted : (place : ℕ) (counts : PacketCounts) → slice_get (packet_counts scenario setup world) place ≡ Some counts

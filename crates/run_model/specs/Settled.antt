@@ -3,19 +3,22 @@ use Rattle.std.specs.Prelude.{◌≡◌, ℕ, zero, suc, ◌<◌, Bool, true, fa
 use Rattle.std.specs.List.{flat_map}
 use Rattle.trace_base.specs.declared.policy.WriterPolicy.TheVariants.{Stalls}
 use Rattle.trace_model.specs.Buffers.{Buffer}
-use Rattle.trace_model.specs.Calls.{Flushed}
+use Rattle.trace_model.specs.Calls.{Call, Flushed}
 use Rattle.trace_model.specs.Counts.{last_count}
 use Rattle.trace_model.specs.History as model
 use Rattle.trace_model.specs.History.{buffers_after}
 use Rattle.trace_model.specs.Packets.{packets_of, lost_count}
 use Rattle.model_laws.specs.Losses.{Loses}
+use Rattle.chunk_plain.specs.Letters.{AreLetters}
 use Rattle.chunk_plain.specs.Setup.{Setup, sequence_of}
-use Rattle.chunk_plain.specs.Views.{At, Content, Completed, ServiceView, WriterView, chunk_of, taken_of}
+use Rattle.chunk_plain.specs.Views.{At, Content, Completed, Reply, ServiceView, WriterView, chunk_of, taken_of}
 use Rattle.chunk_plain.specs.World.{World, writer}
 use Rattle.chunk_plain.specs.Histories.{history_of}
 use Rattle.chunk_plain.specs.Owned.{IsOwned, held_count, won_chunks}
 use Rattle.chunk_plain.specs.Plain.{first_world}
 use Rattle.chunk_schedules.specs.Schedules.{Leads}
+use Rattle.world_model.specs.FirstBuffers.{payload_at}
+use Rattle.trace_writer.specs.Answered.{IsAnsweredCut}
 use Rattle.scenario_text.specs.declared.scenario.NumberedLine.{NumberedLine}
 use Rattle.scenario_text.specs.Scenario.{Parts}
 use Rattle.scenario_text.specs.Accepted.{calls_asked}
@@ -27,6 +30,7 @@ use Rattle.service_core.specs.Taking.{noted_more}
 use Rattle.replay_model.specs.Does.{is_shut}
 use Rattle.replay_model.specs.Played.{IsSetupOf, buffers_of}
 use Rattle.schedule_laws.specs.Resting.{IsBetweenCalls}
+use Rattle.run_model.specs.Answered.{HasAnsweredAll, answered_out}
 use Rattle.run_model.specs.Collected.{IsTakenBy}
 use Rattle.run_model.specs.Noted.{done_calls}
 use Rattle.run_model.specs.Reads.{GoesByReads}
@@ -35,24 +39,31 @@ use Rattle.run_model.specs.Vain.{LosesInVain}
 
 -- ---- a writer
 
--- The writer at this place has done its lines: it is between two calls and holds no chunk, and what it has noted is just what the lines ask of it, and
--- then the flush that ends its job. The chunks that it began are those that its claims won, in their order. Packets may be lost on the way,
--- each behind rounds of claims in vain of its own, but none of one that stalls.
-pub record HasDoneLines (setup : Setup) (lines : List NumberedLine) (place : ℕ) (view : WriterView) : Type 0 where
+-- The writer at this place has done its lines: it is between two calls and holds no chunk, and what it has noted, but for the flushes of its
+-- answers, is just what the lines ask of it, and then the flushes that end its work. The chunks that it began are those that its claims won, in
+-- their order. Packets may be lost on the way, each behind rounds of claims in vain of its own, but none of one that stalls. The chunks that
+-- each of its answers counts are a cut of the packets of the calls before it, of which the last is a flush.
+pub record HasDoneLines (setup : Setup) (lines : List NumberedLine) (endings : List Call) (place : ℕ) (view : WriterView) : Type 0 where
   pub between : IsBetweenCalls setup place view
-  pub asked : done_calls view.calls ≡ calls_asked (suc place) lines ++ Flushed ∷ []
+  pub asked : done_calls (answered_out view) ≡ calls_asked (suc place) lines ++ endings
   pub lose : Loses (calls_asked (suc place) lines) view.calls
   pub in_turn : won_chunks view.asked ≡ map chunk_of view.begun
   pub vain : LosesInVain setup place view
   pub stalls : (spec_at setup.writers place).policy ≡ Stalls → lost_count (packets_of view.calls) ≡ 0
   pub none_held : held_count view.begun ≡ 0
+  pub answers : (n : ℕ) (answer : Reply) → At view.letters.answers n answer → IsAnsweredCut (payload_at setup place) (sequence_of place) view answer
+
+-- the flushes behind a writer's lines: the one that ends its job, and the one behind which it has heard of all requests
+abbrev pub last_flushes : List Call
+last_flushes = Flushed ∷ Flushed ∷ []
 
 -- ---- all of them
 
 -- The writers and the service are those of one owned world, in which the service is reading no chunk. A schedule of their steps leads to it
 -- from a table as it is made, by way of a world in which each writer had completed all that it completes. Each writer has done its lines,
 -- and all that it completed was taken. What was noted on each sequence is in order, and they are all closed, or none is. Finished fragments
--- of a chunk before it was complete were noted only where a line scrapes the writer's producer.
+-- of a chunk before it was complete were noted only where a line scrapes the writer's producer. No writer knows of a flush request that wasn't
+-- made, its answers are to rising requests, and each answer that the service read was given.
 pub record HasDoneAll (scenario : Parts) (setup : Setup) (world : World) (closed : Bool) : Type 0 where
   pub setup_is : IsSetupOf scenario setup
   pub many : length world.writers ≡ length setup.writers
@@ -65,12 +76,13 @@ pub record HasDoneAll (scenario : Parts) (setup : Setup) (world : World) (closed
   pub leads : ∥ ((other : World) × Leads stood other × (other.writers ≡ world.writers) × (other.service ≡ world.service)) ∥₁
   pub completed : (place : ℕ) → place < length setup.writers → (id chunk : ℕ) (content : Content)
       → At (writer world place).begun id (Completed chunk content) → At (writer stood place).begun id (Completed chunk content)
-  pub writers : (place : ℕ) → place < length setup.writers → HasDoneLines setup scenario.lines place (writer world place)
+  pub writers : (place : ℕ) → place < length setup.writers → HasDoneLines setup scenario.lines last_flushes place (writer world place)
   pub taken : (place : ℕ) → place < length setup.writers → (taken_of world.service place).count ≡ length (writer world place).begun
   pub order : (place : ℕ) → place < length setup.writers
       → LeadTo world.service (sequence_of place) beginning world.service.events
       (record { come = (taken_of world.service place).count; closed = closed; due = [] })
   pub scraped : ScrapedByLines setup scenario.lines world.service
+  pub letters : ∥ AreLetters world ∥₁
 
 -- ---- the end
 
@@ -111,9 +123,11 @@ pub record HasClosedAll (scenario : Parts) (setup : Setup) (world : World) : Typ
 -- complete only where a line scrapes the writer's producer. Nothing of a producer that no line collects or scrapes, and none of whose
 -- writers asks for help, was taken before the threads were done, and what was left then was taken producer by producer in rising number. The reads
 -- are those of the read lines in their order, each by what its buffer held when the line was played, and then those of the end, where each
--- producer is closed and then each buffer read without limit.
+-- producer is closed and then each buffer read without limit. As many flush requests were made as lines ask for, and the service has read of each
+-- writer an answer to the last one.
 pub record IsRun (scenario : Parts) (setup : Setup) (world : World) : Type 0 where
   pub before : HasClosedAll scenario setup world
+  pub answered : HasAnsweredAll scenario setup world.service
   -- those of the end
   pub last : List model.Event
   pub reads : ReadsTo setup (buffers_of scenario setup) (length scenario.buffers) last before.closed world.service

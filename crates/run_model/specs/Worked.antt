@@ -1,7 +1,7 @@
--- Two scenarios over one chunk that nobody has collected, in which more packets can't be delivered than there are chunks.
-use Rattle.std.specs.Prelude.{◌≡◌, ◌+◌, ◌<◌, true, false, List, [], ◌∷◌, map}
+-- Three scenarios over one chunk that nobody has collected, in which more packets can't be delivered than there are chunks.
+use Rattle.std.specs.Prelude.{◌≡◌, ℕ, ◌+◌, ◌<◌, true, false, List, [], ◌∷◌, map}
 use Rattle.trace_base.specs.declared.policy.FullPolicy.TheVariants.{Ring}
-use Rattle.trace_base.specs.declared.policy.WriterPolicy.TheVariants.{Drops}
+use Rattle.trace_base.specs.declared.policy.WriterPolicy.TheVariants.{Drops, Stalls}
 use Rattle.trace_base.specs.declared.policy.WriterSpec.{WriterSpec}
 use Rattle.trace_model.specs.Packets.{Packet as PacketOf, packets_of, lost_count}
 use Rattle.field_tree.specs.Nodes.{Shown}
@@ -25,11 +25,22 @@ over_one_chunk writers lines = record {
 abbrev pub dropping : WriterSpec
 dropping = record { producer = 1; buffer = 1; policy = Drops }
 
--- one writer's two packets, with a flush between them
+-- a writer of that producer that stalls
+abbrev pub stalling : WriterSpec
+stalling = record { producer = 1; buffer = 1; policy = Stalls }
+
+-- two packets of the first writer, with a flush between them, from this line of the text on
+abbrev pub two_packets : (at : ℕ) (first second : List Shown) → List NumberedLine
+two_packets at first second =
+    record { line = at; what = Packet 1 first } ∷ record { line = at + 1; what = Flush 1 } ∷ record { line = at + 2; what = Packet 1 second } ∷ []
+
+-- one writer's two packets, with a flush between them, where it is alone
 abbrev pub flushed_between : (first second : List Shown) → Parts
-flushed_between first second =
-    over_one_chunk (dropping ∷ [])
-    (record { line = 4; what = Packet 1 first } ∷ record { line = 5; what = Flush 1 } ∷ record { line = 6; what = Packet 1 second } ∷ [])
+flushed_between first second = over_one_chunk (dropping ∷ []) (two_packets 4 first second)
+
+-- and where it is beside one that stalls, which has no lines and so asks for no chunk
+abbrev pub beside_idle : (first second : List Shown) → Parts
+beside_idle first second = over_one_chunk (dropping ∷ stalling ∷ []) (two_packets 5 first second)
 
 -- a packet of each of two writers
 abbrev pub one_of_each : (first second : List Shown) → Parts
@@ -37,12 +48,14 @@ one_of_each first second =
     over_one_chunk (dropping ∷ dropping ∷ [])
     (record { line = 5; what = Packet 1 first } ∷ record { line = 6; what = Packet 2 second } ∷ [])
 
--- In each run of either a packet is lost: the account in which both are delivered is refused. Of one writer's two packets it is the second:
+-- In each run of each a packet is lost: the account in which both are delivered is refused. Where a writer is alone it is the second of its two:
 -- the first was begun in the chunk, and the second dropped at its begin. (The newest packet stands first.)
 pub record OneChunkHoldsOnePacket : Type 0 where
   pub flushed : (first second : List Shown) (setup : Setup) (world : World) → IsRun (flushed_between first second) setup world
       → 0 < lost_count (packets_of (writer world 0).calls)
   pub first_kept : (first second : List Shown) (setup : Setup) (world : World) → IsRun (flushed_between first second) setup world
       → map (λ (packet : PacketOf). packet.kept) (packets_of (writer world 0).calls) ≡ false ∷ true ∷ []
+  pub idle : (first second : List Shown) (setup : Setup) (world : World) → IsRun (beside_idle first second) setup world
+      → 0 < lost_count (packets_of (writer world 0).calls)
   pub each : (first second : List Shown) (setup : Setup) (world : World) → IsRun (one_of_each first second) setup world
       → 0 < lost_count (packets_of (writer world 0).calls) + lost_count (packets_of (writer world 1).calls)

@@ -1,6 +1,8 @@
 //! The laws: contracts of functions with nothing to do.
 ghost use Rattle.run_model.specs.Laws.{EveryRunIsFaithful, EveryStoppedRunIsFaithful, EveryRunIsBalanced, EveryRunCountsPackets, EveryEnoughRunIsComplete, UncollectedChunksAreUsedOnce, NothingIsBegunBehindLosses, LostClaimsFindHad};
+ghost use Rattle.run_model.specs.FlushLaws.{EveryRunFlushIsSettled};
 ghost use Rattle.run_model.specs.Worked.{OneChunkHoldsOnePacket};
+ghost use Rattle.run_model.specs.WorkedAnswers.{WorkedAnswers};
 
 /// The records of a run are faithful to the packets that the lines have writers emit.
 pub fn every_run_is_faithful()
@@ -27,6 +29,17 @@ pub fn every_enough_run_is_complete()
     ensures { EveryEnoughRunIsComplete }
 {}
 
+/// Once the chunks that an answer to a flush request counts have come and are read, each packet is settled
+/// that its writer had emitted when it answered.
+pub fn every_run_flush_is_settled()
+    ensures { EveryRunFlushIsSettled }
+{}
+
+/// The numbers of a report's flush requests, and the flushes of answers among a writer's calls, computed.
+pub fn worked_answers()
+    ensures { WorkedAnswers }
+{}
+
 /// Of a producer that nobody has collected each chunk is used once at most.
 pub fn uncollected_chunks_are_used_once()
     ensures { UncollectedChunksAreUsedOnce }
@@ -37,12 +50,14 @@ pub fn nothing_is_begun_behind_losses()
     ensures { NothingIsBegunBehindLosses }
 {}
 
-/// Each claim in vain of a run was made where somebody had the chunk.
+/// A schedule leads to what was done in a run, by way of the world in which the threads were done, and
+/// each claim in vain of it was made where somebody had the chunk.
 pub fn lost_claims_find_had()
     ensures { LostClaimsFindHad }
 {}
 
-/// Over one chunk that nobody has collected two packets aren't both delivered: two scenarios, computed.
+/// Over one chunk that nobody has collected two packets aren't both delivered: three scenarios,
+/// computed.
 pub fn one_chunk_holds_one_packet()
     ensures { OneChunkHoldsOnePacket }
 {}

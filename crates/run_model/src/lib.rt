@@ -3,13 +3,15 @@
 //! A layer above may rely on this: a schedule of steps leads to what was done, by way of the world in which
 //! the threads were done; the records are faithful to what the lines have the writers emit, also up to a
 //! write that failed, the report counts every packet once, and where chunks and bytes are enough none is
-//! missing.
+//! missing. What a writer had emitted when it answered a flush request is settled once the chunks that the
+//! answer counts have come and are read.
 #![tactic(auto)]
 
 mod laws;
 
 pub use laws::{
-    every_enough_run_is_complete, every_run_counts_packets, every_run_is_balanced,
-    every_run_is_faithful, every_stopped_run_is_faithful, lost_claims_find_had,
-    nothing_is_begun_behind_losses, one_chunk_holds_one_packet, uncollected_chunks_are_used_once,
+    every_enough_run_is_complete, every_run_counts_packets, every_run_flush_is_settled,
+    every_run_is_balanced, every_run_is_faithful, every_stopped_run_is_faithful,
+    lost_claims_find_had, nothing_is_begun_behind_losses, one_chunk_holds_one_packet,
+    uncollected_chunks_are_used_once, worked_answers,
 };
