@@ -51,6 +51,25 @@ closes_own setup (suc number) old new closes =
     ap (λ (v : ServiceView). v.commits) last.view
     ∙ takes_own setup (places_of (suc number) 0 setup.writers) closes.1 closes.0 last.between last.takes ∙ closes_own setup number old closes.0 closes.2
 
+takes_letters : (setup : Setup) (places : List ℕ) (taken : ℕ) (old new : ServiceView) → Takes setup places taken old new → new.letters ≡ old.letters
+takes_letters setup [] taken old new takes = ap (λ (v : ServiceView). v.letters) takes.1
+takes_letters setup (place ∷ places) taken old new takes =
+    takes_letters setup places takes.1 takes.2 new takes.5 ∙ ap (λ (v : ServiceView). v.letters) takes.4.view
+
+-- no flush request is made, and no answer read
+pub closes_letters : (setup : Setup) (number : ℕ) (old new : ServiceView) → ClosesTo setup number old new → new.letters ≡ old.letters
+closes_letters setup zero old new closes = ap (λ (v : ServiceView). v.letters) closes
+closes_letters setup (suc number) old new closes =
+    let last = closes.3 in
+    ap (λ (v : ServiceView). v.letters) last.view
+    ∙ takes_letters setup (places_of (suc number) 0 setup.writers) closes.1 closes.0 last.between last.takes ∙ closes_letters setup number old closes.0 closes.2
+
+pub reads_letters : (setup : Setup) (first : List Buffer) (number : ℕ) (reads : List model.Event) (old new : ServiceView) → ReadsTo setup first number reads old new
+    → new.letters ≡ old.letters
+reads_letters setup first zero reads old new is = ap (λ (v : ServiceView). v.letters) is.1
+reads_letters setup first (suc number) reads old new is =
+    ap (λ (v : ServiceView). v.letters) is.3.1 ∙ reads_letters setup first number is.1 old is.0 is.2
+
 pub closes_rise : (setup : Setup) (number : ℕ) (old new : ServiceView) → length old.taken ≡ length setup.writers → ClosesTo setup number old new
     → (place : ℕ) → (taken_of old place).count ≤ (taken_of new place).count
 closes_rise setup zero old new many closes place =

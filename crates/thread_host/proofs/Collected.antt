@@ -1,10 +1,10 @@
 -- Which calls of a service take chunks: collects and scrapes alone, and of the writers whose producer is collected.
-use Rattle.std.proofs.Common.{◌≡◌, ◌≢◌, ◌∙◌, ℕ, zero, suc, Bool, true, false, List, [], ◌∷◌, ◌++◌, refl, sym, ap, subst, inl, inr}
-use Rattle.std.specs.Prelude.{◌&&◌, ◌||◌}
+use Rattle.std.proofs.Common.{◌≡◌, ◌≢◌, ◌∙◌, ℕ, zero, suc, ◌+◌, Bool, true, false, List, [], ◌∷◌, ◌++◌, refl, sym, ap, subst, inl, inr, arith}
+use Rattle.std.specs.Prelude.{◌==◌, ◌||◌, if◌then◌else◌}
 use Rattle.std.specs.List.{list_any}
 use Rattle.std.specs.Coded.{Coded-set, codes}
 use Rattle.std.proofs.Math.Logic.{∥∥₁_elim}
-use Rattle.std.proofs.lemmas.Bool.{eq-eqb, true≢false}
+use Rattle.std.proofs.lemmas.Bool.{and_parts, eq-eqb, true≢false}
 use Rattle.std.proofs.Math.Bool.{or-true}
 use Rattle.std.proofs.lemmas.List.Folds.{list_any-append}
 use Rattle.trace_base.specs.declared.policy.WriterSpec.{WriterSpec}
@@ -16,7 +16,7 @@ use Rattle.scenario_text.specs.declared.scenario.NumberedLine.{NumberedLine}
 use Rattle.service_core.specs.Agreement.{spec_at}
 use Rattle.service_core.specs.Scraping.{ScrapesOne, ScrapesEach, TakesAndScrapes}
 use Rattle.service_core.specs.Taking.{Takes, places_of}
-use Rattle.run_model.specs.Collected.{CollectedByLines, asks_for, collects, asks_help, is_collected_by, may_be_collected}
+use Rattle.run_model.specs.Collected.{CollectedByLines, begins_packets, collects, asks_help, is_collected_by, may_ask, may_be_collected}
 use Rattle.run_model.specs.Scraped.{is_scraped_by}
 use Rattle.thread_service.proofs.SettlingLemmas.{rounds_look}
 use Rattle.thread_host.specs.Growing.{GrowsOnce, GrowsBy, Grows}
@@ -48,7 +48,7 @@ scrape_other setup producer taken old new scrapes place other =
 -- a line that scrapes the producer may have it collected
 scraped_may : (setup : Setup) (lines : List NumberedLine) (producer : ℕ) → is_scraped_by lines producer ≡ true → may_be_collected setup lines producer ≡ true
 scraped_may setup lines producer scraped =
-    ap (λ (b : Bool). is_collected_by lines producer || (b || list_any (asks_for producer) setup.writers)) scraped
+    ap (λ (b : Bool). is_collected_by lines producer || (b || list_any (may_ask setup lines) (places_of producer 0 setup.writers))) scraped
     ∙ or-true (is_collected_by lines producer)
 
 others_collected : (setup : Setup) (lines : List NumberedLine) (producer : ℕ) (old new : ServiceView) → may_be_collected setup lines producer ≡ true
@@ -65,8 +65,12 @@ once_collected setup lines old new (inl collect) collected =
     others_collected setup lines collect.0 old new collect.2 (takes_other setup collect.0 collect.1 old new collect.3) collected
 once_collected setup lines old new (inr (inl scrape)) collected =
     others_collected setup lines scrape.0 old new (scraped_may setup lines scrape.0 scrape.2) (scrape_other setup scrape.0 scrape.1 old new scrape.3) collected
-once_collected setup lines old new (inr (inr read)) collected =
+once_collected setup lines old new (inr (inr (inl read))) collected =
     λ place inside nobody. ap (λ (v : ServiceView). (taken_of v place).count) read.1 ∙ collected place inside nobody
+once_collected setup lines old new (inr (inr (inr (inl hears)))) collected =
+    λ place inside nobody. ap (λ (v : ServiceView). (taken_of v place).count) hears.2 ∙ collected place inside nobody
+once_collected setup lines old new (inr (inr (inr (inr asks)))) collected =
+    λ place inside nobody. ap (λ (v : ServiceView). (taken_of v place).count) asks ∙ collected place inside nobody
 
 by_collected : (setup : Setup) (lines : List NumberedLine) (views : List ServiceView) (old new : ServiceView) → GrowsBy setup lines views old new
     → CollectedByLines setup lines old → CollectedByLines setup lines new
@@ -89,7 +93,7 @@ grown_collected setup lines old new grows collected =
 pub collected_here : (setup : Setup) (before later lines : List NumberedLine) (one : NumberedLine) (producer : ℕ) → before ++ one ∷ later ≡ lines
     → one.what ≡ line.Collect producer → may_be_collected setup lines producer ≡ true
 collected_here setup before later lines one producer all is =
-    ap (λ (b : Bool). b || (is_scraped_by lines producer || list_any (asks_for producer) setup.writers)) by_line
+    ap (λ (b : Bool). b || (is_scraped_by lines producer || list_any (may_ask setup lines) (places_of producer 0 setup.writers))) by_line
   where
     by_line : is_collected_by lines producer ≡ true
     by_line =
@@ -99,21 +103,28 @@ collected_here setup before later lines one producer all is =
         ∙ ap (λ (b : Bool). is_collected_by before producer || (b || is_collected_by later producer)) (eq-eqb producer producer refl)
         ∙ or-true (is_collected_by before producer)
 
--- a writer that asks for help
-asks_here : (producer : ℕ) (specs : List WriterSpec) (place : ℕ) → (spec_at specs place).producer ≡ producer → asks_help (spec_at specs place).policy ≡ true
-    → list_any (asks_for producer) specs ≡ true
-asks_here producer [] place own stalls = absurd (true≢false (sym stalls))
-asks_here producer (spec ∷ specs) zero own stalls =
-    ap (λ (b : Bool). (b && asks_help spec.policy) || list_any (asks_for producer) specs) (eq-eqb producer spec.producer (sym own))
-    ∙ ap (λ (b : Bool). b || list_any (asks_for producer) specs) stalls
-asks_here producer (spec ∷ specs) (suc place) own stalls =
-    ap (λ (b : Bool). asks_for producer spec || b) (asks_here producer specs place own stalls)
-    ∙ or-true (asks_for producer spec)
+-- a writer that asks for help, at its place among those of its producer
+any_behind : (is : Bool) (f : ℕ → Bool) (one : ℕ) (others : List ℕ) → list_any f others ≡ true → list_any f (if is then one ∷ others else others) ≡ true
+any_behind true f one others any = ap (λ (b : Bool). f one || b) any ∙ or-true (f one)
+any_behind false f one others any = any
 
-pub asked_here : (setup : Setup) (lines : List NumberedLine) (place : ℕ) → asks_help (spec_at setup.writers place).policy ≡ true
+asks_here : (f : ℕ → Bool) (producer : ℕ) (specs : List WriterSpec) (from index at : ℕ) → (spec_at specs index).producer ≡ producer
+    → asks_help (spec_at specs index).policy ≡ true → at ≡ from + index → f at ≡ true → list_any f (places_of producer from specs) ≡ true
+asks_here f producer [] from index at own asks is there = absurd (true≢false (sym asks))
+asks_here f producer (spec ∷ specs) from zero at own asks is there =
+    let first : at ≡ from = omega (arith, is) in
+    ap (λ (b : Bool). list_any f (if b then from ∷ places_of producer (suc from) specs else places_of producer (suc from) specs)) (eq-eqb spec.producer producer own)
+    ∙ ap (λ (b : Bool). b || list_any f (places_of producer (suc from) specs)) (ap f (sym first) ∙ there)
+asks_here f producer (spec ∷ specs) from (suc index) at own asks is there =
+    any_behind (spec.producer == producer) f from (places_of producer (suc from) specs)
+    (asks_here f producer specs (suc from) index at own asks (omega (arith, is)) there)
+
+pub asked_here : (setup : Setup) (lines : List NumberedLine) (place : ℕ) → may_ask setup lines place ≡ true
     → may_be_collected setup lines (spec_at setup.writers place).producer ≡ true
-asked_here setup lines place stalls =
+asked_here setup lines place asks =
     let producer : ℕ = (spec_at setup.writers place).producer in
-    ap (λ (b : Bool). is_collected_by lines producer || (is_scraped_by lines producer || b)) (asks_here producer setup.writers place refl stalls)
+    let policy = (and_parts (asks_help (spec_at setup.writers place).policy) (begins_packets (suc place) lines) asks).0 in
+    ap (λ (b : Bool). is_collected_by lines producer || (is_scraped_by lines producer || b))
+    (asks_here (may_ask setup lines) producer setup.writers 0 place place refl policy (omega arith) asks)
     ∙ ap (λ (b : Bool). is_collected_by lines producer || b) (or-true (is_scraped_by lines producer))
     ∙ or-true (is_collected_by lines producer)

@@ -15,7 +15,7 @@ use Rattle.service_core.specs.Agreement.{KeepsRest, is_closed}
 use Rattle.service_core.specs.Order.{LeadTo, beginning}
 use Rattle.replay_host.proofs.TakenLemmas.{open_is, none_committed}
 use Rattle.replay_model.specs.Does.{is_shut}
-use Rattle.run_model.specs.Settled.{HasDoneLines, HasDoneAll}
+use Rattle.run_model.specs.Settled.{HasDoneLines, HasDoneAll, last_flushes}
 use Rattle.thread_service.specs.declared.service.Service.{Service}
 use Rattle.thread_service.specs.Serving.{core_of, view_in, desk_in, Serves}
 use Rattle.thread_host.specs.Finishing.{AreClosedTo}
@@ -23,6 +23,15 @@ use Rattle.thread_host.specs.Hosts.{IsSettled}
 use Rattle.thread_host.specs.declared.settled.Settled.{Settled}
 use Rattle.thread_host.proofs.Parts.{AddsNoPart, none_scraped}
 use Rattle.thread_host.proofs.Seating.{HasSeatAt, get_of, seat_at}
+
+-- letters are of writers and service alone
+pub same_letters : (one other : World) → one.writers ≡ other.writers → one.service ≡ other.service → AreLetters one → AreLetters other
+same_letters one other writers service are =
+    let first : AreLetters (record { chunks = other.chunks; writers = one.writers; service = one.service })
+    = record { known = are.known; answers = are.answers; heard = are.heard } in
+    let second : AreLetters (record { chunks = other.chunks; writers = other.writers; service = one.service }) =
+    subst (λ (ws : List WriterView). AreLetters (record { chunks = other.chunks; writers = ws; service = one.service })) writers first in
+    subst (λ (v : ServiceView). AreLetters (record { chunks = other.chunks; writers = other.writers; service = v })) service second
 
 -- no sequence was closed when all was settled
 pub opened_here : (scenario : Parts) (settled : Settled) → IsSettled scenario settled → (place : ℕ) → place < length (setup_in settled.table).writers
@@ -81,10 +90,10 @@ module _ (scenario : Parts) (settled : Settled) (is : IsSettled scenario settled
     seat_here place inside = let many = is.many in seat_at settled.seats.items place (omega (arith, inside, many))
 
     pub done_here : (place : ℕ) → place < length (setup_in settled.table).writers
-        → HasDoneLines (setup_in settled.table) scenario.lines place (writer (record { chunks = []; writers = views_of settled.seats.items; service = view_in final }) place)
+        → HasDoneLines (setup_in settled.table) scenario.lines last_flushes place (writer (record { chunks = []; writers = views_of settled.seats.items; service = view_in final }) place)
     done_here place inside =
         let here = seat_here place inside in
-        subst (λ (v : WriterView). HasDoneLines setup scenario.lines place v) (sym here.view) (is.done place here.seat here.there).done
+        subst (λ (v : WriterView). HasDoneLines setup scenario.lines last_flushes place v) (sym here.view) (is.done place here.seat here.there).done
 
     pub taken_here : (place : ℕ) → place < length (setup_in settled.table).writers
         → (taken_of (view_in final) place).count ≡ length (writer (record { chunks = []; writers = views_of settled.seats.items; service = view_in final }) place).begun
@@ -136,4 +145,6 @@ module _ (scenario : Parts) (settled : Settled) (is : IsSettled scenario settled
         taken = taken_here;
         order = order_here;
         scraped = none_scraped setup scenario.lines (view_in settled.service) view none is.served.scraped;
+        letters = ∥∥₁_map account (λ (one : (other : World) × IsOwned other × IsLed setup marks other × (other.writers ≡ views_of settled.seats.items) × (other.service ≡ view) × AreLetters other).
+            same_letters one.0 world one.3 one.4 one.5);
       }

@@ -1,12 +1,12 @@
 -- Once all is closed, read and taken apart, what the seats knew is a run of the scenario, and what was counted is its report.
-use Rattle.std.proofs.Common.{◌≡◌, ◌∙◌, ℕ, ◌<◌, List, [], length, map, ap}
+use Rattle.std.proofs.Common.{◌≡◌, ◌∙◌, ℕ, ◌<◌, List, [], length, map, sym, ap, subst}
 use Rattle.std.specs.Prelude.{slice_index_or}
 use Rattle.byte_io.specs.Bytes.{Intake}
 use Rattle.trace_buffer.specs.Answers as answers
 use Rattle.trace_model.specs.Buffers.{Buffer}
 use Rattle.chunk_plain.specs.Histories.{history_of}
 use Rattle.chunk_plain.specs.Setup.{Setup}
-use Rattle.chunk_plain.specs.Views.{ServiceView}
+use Rattle.chunk_plain.specs.Views.{At, Heard, Letter, ServiceView, asked_in}
 use Rattle.chunk_words.specs.declared.seats.ReadPass.{ReadPass}
 use Rattle.chunk_words.specs.Closed.{HasAllSeats, IsAccount, AllTaken, views_of}
 use Rattle.chunk_words.specs.GoesOn.{GoesOn}
@@ -17,6 +17,7 @@ use Rattle.scenario_text.specs.Scenario.{Parts}
 use Rattle.service_core.specs.Agreement.{first_of}
 use Rattle.service_core.proofs.AgreeLemmas.{first_stays}
 use Rattle.replay_model.specs.Played.{buffers_of}
+use Rattle.run_model.specs.Answered.{HasAnsweredAll, run_sums}
 use Rattle.run_model.specs.Reads.{GoesByReads}
 use Rattle.run_model.specs.Settled.{IsRun}
 use Rattle.thread_service.specs.declared.service.Service.{Service}
@@ -28,10 +29,19 @@ use Rattle.thread_host.specs.Ending.{no_counts}
 use Rattle.thread_host.specs.Finishing.{HasFinished, ReadsOut}
 use Rattle.thread_host.specs.Hosts.{IsSettled}
 use Rattle.thread_host.specs.declared.settled.Settled.{Settled}
-use Rattle.thread_host.proofs.Closing.{reads_noted, reads_own, reads_taken}
+use Rattle.thread_host.proofs.Closing.{closes_letters, reads_letters, reads_noted, reads_own, reads_taken}
 use Rattle.thread_host.proofs.Ended.{AddsReads, ClosesAll, began, closed_all, ended_seats, has_ended, of_scenario}
 use Rattle.thread_host.proofs.Parts.{reads_to_none}
 use Rattle.thread_host.proofs.Tallying.{report_is}
+
+-- what was read of answers stays so
+answered_still : (scenario : Parts) (setup : Setup) (old new : ServiceView) → new.letters ≡ old.letters → HasAnsweredAll scenario setup old
+    → HasAnsweredAll scenario setup new
+answered_still scenario setup old new same answered = record {
+  requests = ap asked_in same ∙ answered.requests;
+  last = subst (λ (letters : List Letter). 0 < asked_in letters → (place : ℕ) → place < length setup.writers
+      → (n : ℕ) × (chunks : ℕ) × At letters n (Heard place (asked_in letters) chunks)) (sym same) answered.last;
+}
 
 -- what was read is reads alone
 reads_only : (setup : Setup) (first : List Buffer) (number : ℕ) (old new passed pass : ServiceView) (before after : Intake)
@@ -72,10 +82,18 @@ module _ (scenario : Parts) (settled : Settled) (is : IsSettled scenario settled
   module _ (account : IsAccount (setup_in settled.table) (desk_in settled.service).marks (views_of settled.seats.items) (view_in final)) (taken : AllTaken (view_in final) (views_of settled.seats.items))
       (goes : GoesOn (known_by_pass pass) (view_in final)) (known : IsKnownWhole (known_by_pass pass)) where
     -- the scenario was run
+    -- no flush request was made since, and no answer read
+    letters : (view_in final).letters ≡ (view_in settled.service).letters
+    letters =
+        reads_letters setup (buffers_of scenario setup) (length scenario.buffers) reads_out.last (view_in closed) (view_in final) reads_out.reads
+        ∙ closes_letters setup settled.producers (view_in settled.service) (view_in closed) ending.closes
+
     run_is : GoesByReads (setup_in settled.table) (buffers_of scenario (setup_in settled.table)) scenario.lines [] (history_of (known_by_pass settled.pass))
+        → HasAnsweredAll scenario (setup_in settled.table) (view_in settled.service)
         → IsRun scenario (setup_in settled.table) (record { chunks = []; writers = views_of settled.seats.items; service = view_in final })
-    run_is asked = record {
+    run_is asked answered = record {
       before = closed_all scenario settled is closed final ending pass only account taken goes known asked;
+      answered = answered_still scenario setup (view_in settled.service) (view_in final) letters answered;
       last = reads_out.last;
       reads = reads_out.reads;
     }
@@ -84,7 +102,7 @@ module _ (scenario : Parts) (settled : Settled) (is : IsSettled scenario settled
         → length done.sequences.items ≡ length (setup_in settled.table).writers
         → ((place : ℕ) → place < length (setup_in settled.table).writers → slice_index_or done.sequences.items place no_counts
         ≡ packets_in (setup_in settled.table) final place (slice_index_or settled.counts.sequences.items place no_counts))
-        → done.flushes.items ≡ []
+        → done.flushes.items ≡ settled.counts.flushes.items
         → HasFinished scenario settled before after done
     has_finished done buffers long each flushes =
         let told = reads_out.tells.tells in
@@ -95,9 +113,10 @@ module _ (scenario : Parts) (settled : Settled) (is : IsSettled scenario settled
           reads = reads_out.reads;
           run = run_is;
           taken = told.taken;
-          report = λ balanced.
+          report = λ balanced all_asked.
               ap (λ all. report_text all done.sequences.items done.flushes.items) buffers
-              ∙ ap (λ all. report_text (map answers.counts_of (counting.buffers_in setup final)) done.sequences.items all) flushes
+              ∙ ap (λ all. report_text (map answers.counts_of (counting.buffers_in setup final)) done.sequences.items all)
+              (flushes ∙ is.flushes all_asked ∙ ap (run_sums (length setup.writers)) (sym letters))
               ∙ report_is scenario setup is.laid settled.seats.items is.many final first balanced settled.counts.sequences.items done.sequences.items long
-              (λ place seat there. (is.done place seat there).counts_are) each;
+              (λ place seat there. (is.done place seat there).counts_are) each (run_sums (length setup.writers) (view_in final).letters);
         }

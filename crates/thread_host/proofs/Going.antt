@@ -1,5 +1,5 @@
 -- What a call makes of a writer that goes on: it never stalls, and what it has noted is what was asked of it.
-use Rattle.std.proofs.Common.{◌≡◌, ◌∙◌, ◌⊎◌, inl, inr, ℕ, Bool, true, false, List, [], ◌∷◌, ◌++◌, length, map, refl, sym, ap, subst, append-nil, append_assoc}
+use Rattle.std.proofs.Common.{◌≡◌, ◌∙◌, ◌⊎◌, inl, inr, ℕ, suc, ◌+◌, ◌*◌, ◌≤◌, Bool, true, false, List, [], ◌∷◌, ◌++◌, length, map, refl, sym, ap, subst, append-nil, append_assoc}
 use Rattle.std.proofs.lemmas.Bool.{true≢false}
 use Rattle.std.specs.Borrow.{Bor}
 use Rattle.atomic_table.specs.Seated.{TableId}
@@ -14,7 +14,7 @@ use Rattle.scenario_text.specs.Accepted.{Accepts, node_call}
 use Rattle.chunk_plain.specs.declared.setup.ChunkRange.{ChunkRange}
 use Rattle.chunk_plain.specs.Setup.{Setup, HasProducer, producer_of, range_of}
 use Rattle.chunk_plain.specs.Owned.{won_chunks}
-use Rattle.chunk_plain.specs.Views.{WriterView, chunk_of}
+use Rattle.chunk_plain.specs.Views.{Letters, WriterView, chunk_of}
 use Rattle.chunk_words.specs.declared.host.HostTable.{HostTable}
 use Rattle.chunk_words.specs.declared.shared.Shared.{Shared}
 use Rattle.chunk_words.specs.declared.seats.WriterSeat.{WriterSeat}
@@ -30,6 +30,7 @@ use Rattle.trace_writer.specs.Losing.{LosesBehind}
 use Rattle.trace_writer.proofs.accounts.Possible.{begin_loses, field_loses, more_keeps, nested_keeps, ended_loses, finished_loses, flushed_loses}
 use Rattle.service_core.specs.Agreement.{spec_at}
 use Rattle.schedule_laws.specs.Resting.{IsBetweenCalls}
+use Rattle.replay_model.specs.Does.{asks_for}
 use Rattle.replay_host.specs.Asking.{IsReadyFor, IsCalled, IsStalledCall, noted_as}
 use Rattle.trace_writer.specs.Answered.{KeepsCompleted}
 use Rattle.trace_writer.proofs.holding.Answering.{works_keep_completed}
@@ -37,8 +38,10 @@ use Rattle.replay_host.proofs.AskedLemmas.{route_is}
 use Rattle.replay_host.proofs.FieldLemmas.{calls_before}
 use Rattle.replay_host.proofs.ReadyLemmas.{NotesFor, loses_more, ready_behind, notes_begun, notes_number, notes_bytes, notes_nested}
 use Rattle.replay_host.proofs.WroteLemmas.{size_is}
+use Rattle.run_model.specs.Answered.{answered_out}
 use Rattle.run_model.specs.Collected.{asks_help}
 use Rattle.run_model.specs.Vain.{GoesOnInTurn, EndsInVain}
+use Rattle.run_model.proofs.AnsweredLemmas.{out_noted}
 use Rattle.run_model.proofs.InTurnLemmas.{in_turn_behind}
 use Rattle.thread_writer.specs.declared.helper.Asks.{Asks}
 use Rattle.thread_writer.specs.declared.writer.TraceWriter.{TraceWriter}
@@ -48,8 +51,9 @@ use Rattle.thread_writer.specs.Lent.{lent}
 use Rattle.thread_writer.specs.Writing.{core_of, view_in, Writes}
 use Rattle.thread_writer.proofs.Calls.{Stays, writes_back}
 use Rattle.thread_writer.proofs.Identity.{works_stay}
-use Rattle.thread_host.specs.Playing.{NeverRefuses, IsGoing, WasAsked}
+use Rattle.thread_host.specs.Playing.{HelpsLosses, NeverRefuses, IsGoing, WasAsked, lost_in}
 use Rattle.thread_host.proofs.Doing.{done_more, call_done}
+use Rattle.thread_host.proofs.Helped.{begun_most, enough_by, works_help, written_most}
 use Rattle.thread_host.proofs.InVain.{AsksOn, works_ask, ends_behind, goes_by, vain_on}
 
 -- ---- a helper that never refuses
@@ -118,6 +122,28 @@ loses_none view new policy packets Ended accepts notes = ended_loses view new no
 loses_none view new policy packets GivenUp accepts notes = absurd accepts
 loses_none view new policy packets Finished accepts notes = finished_loses view new notes
 loses_none view new policy packets Flushed accepts notes = flushed_loses view new notes
+
+-- one that stopped loses one packet at most
+loses_most : (view new : WriterView) (policy : WriterPolicy) (packets : List Packet) (call : Call) → Accepts packets call
+    → new.calls ≡ view.calls ++ noted_as true policy call → lost_count (packets_of new.calls) ≤ suc (lost_count (packets_of view.calls))
+loses_most view new policy packets call accepts = by call accepts
+  where
+    -- the call alone
+    alone : Call → WriterView
+    alone one = record view { calls = view.calls ++ one ∷ [] }
+
+    by : (call : Call) → Accepts packets call → new.calls ≡ view.calls ++ noted_as true policy call
+        → lost_count (packets_of new.calls) ≤ suc (lost_count (packets_of view.calls))
+    by (Begun kept) accepts notes = begun_most view new policy notes
+    by (Number field value) accepts notes =
+        written_most view new policy (Number field value) (loses_none view (alone (Number field value)) policy packets (Number field value) accepts refl) notes
+    by (Bytes field text times) accepts notes =
+        written_most view new policy (Bytes field text times) (loses_none view (alone (Bytes field text times)) policy packets (Bytes field text times) accepts refl) notes
+    by (Nested field) accepts notes = written_most view new policy (Nested field) (loses_none view (alone (Nested field)) policy packets (Nested field) accepts refl) notes
+    by Ended accepts notes = written_most view new policy Ended (loses_none view (alone Ended) policy packets Ended accepts refl) notes
+    by GivenUp accepts notes = absurd accepts
+    by Finished accepts notes = written_most view new policy Finished (loses_none view (alone Finished) policy packets Finished accepts refl) notes
+    by Flushed accepts notes = written_most view new policy Flushed (loses_none view (alone Flushed) policy packets Flushed accepts refl) notes
 
 stops_not : (policy : WriterPolicy) (stopped : Bool) → (stopped ≡ true → loses policy ≡ true) → policy ≡ Stalls → stopped ≡ false
 stops_not policy false drops stalls = refl
@@ -201,10 +227,16 @@ module _ {H : Type 0} (helps : H → ℕ → Bool → H → Type 0) (of_table : 
               (works_keep_completed shared.means (route_of core) (IsHelp helps) called.works),
         )
 
+        same_letters : (view_in after).letters ≡ (view_in writer).letters
+        same_letters = called.others.letters_stay ∙ ap (λ (c : WriterCore WriterSeat). (known_by c.seat).letters) is
+
+        same_answers : (view_in after).letters.answers ≡ (view_in writer).letters.answers
+        same_answers = ap (λ (l : Letters). l.answers) same_letters
+
         writes : Writes table.now after
         writes = writes_back (lent table) new writer after going.writes policy answered (ap (λ (s : WriterSpec). s.policy) same_spec) same_size same_table
             called.others.setup_stays called.others.seat_stays place_stays agrees
-            (called.others.letters_stay ∙ ap (λ (c : WriterCore WriterSeat). (known_by c.seat).letters) is) stays
+            same_letters stays
 
         notes_it : NotesFor call (noted_as called.stopped (route_of core).spec.policy call)
         notes_it = notes_for (account_of going.ready.asked).packets called.stopped (route_of core).spec.policy call going.ready.accepted.0 called.drops
@@ -215,6 +247,27 @@ module _ {H : Type 0} (helps : H → ℕ → Bool → H → Type 0) (of_table : 
             loses_none (view_in writer) (view_in after) (route_of core).spec.policy (account_of going.ready.asked).packets call going.ready.accepted.0
             (subst (λ (b : Bool). (view_in after).calls ≡ (view_in writer).calls ++ noted_as b (route_of core).spec.policy call) goes notes)
             ∙ going.whole stalls
+
+        -- the helper was asked as often as what was lost wants
+        pub helps_losses : HelpsLosses helps help writer left after
+        helps_losses =
+            let policy : WriterPolicy = (route_of core).spec.policy in
+            let asks = works_help helps (route_of core).spec.producer called.works in
+            let accepts = going.ready.accepted.0 in
+            let packets = (account_of going.ready.asked).packets in
+            let enough : asks_for policy * lost_in after ≤ asks_for policy * lost_in writer + asks.0 =
+            enough_by (asks_for policy) asks.0 (lost_in writer) (lost_in after) called.stopped
+            (λ goes. loses_none (view_in writer) (view_in after) policy packets call accepts
+            (subst (λ (b : Bool). (view_in after).calls ≡ (view_in writer).calls ++ noted_as b policy call) goes notes))
+            (λ stops. loses_most (view_in writer) (view_in after) policy packets call accepts
+            (subst (λ (b : Bool). (view_in after).calls ≡ (view_in writer).calls ++ noted_as b policy call) stops notes))
+            asks.2 in
+            record {
+              policy_stays = ap (λ (s : WriterSpec). s.policy) same_spec;
+              times = asks.0;
+              helped = asks.1;
+              enough = subst (λ (c : WriterCore WriterSeat). asks_for (route_of c).spec.policy * lost_in after ≤ asks_for (route_of c).spec.policy * lost_in writer + asks.0) is enough;
+            }
 
         range_here : range_of (setup_in table.now) (producer_of (setup_in table.now) place) ≡ range_in (route_of core).arbiter
         range_here =
@@ -254,7 +307,9 @@ module _ {H : Type 0} (helps : H → ℕ → Bool → H → Type 0) (of_table : 
           writes = writes;
           place_is = place_stays ∙ going.place_is;
           going = called.going;
-          done = done_more asked (view_in writer).calls (view_in after).calls call (noted_as called.stopped (route_of core).spec.policy call) going.done notes
+          done = done_more asked (answered_out (view_in writer)) (answered_out (view_in after)) call (noted_as called.stopped (route_of core).spec.policy call) going.done
+              (out_noted (view_in writer) (view_in after) (noted_as called.stopped (route_of core).spec.policy call) same_answers notes
+              (λ n answer there. (going.writes.cuts n answer there).calls))
               (call_done (account_of going.ready.asked).packets called.stopped (route_of core).spec.policy call going.ready.accepted.0 called.drops);
           lose = loses_more asked (view_in writer) (view_in after) call (noted_as called.stopped (route_of core).spec.policy call) going.lose notes notes_it;
           in_turn = in_turn;

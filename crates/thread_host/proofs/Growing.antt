@@ -14,7 +14,7 @@ use Rattle.service_core.specs.Taking.{Takes, places_of}
 use Rattle.run_model.specs.Collected.{may_be_collected}
 use Rattle.run_model.specs.Scraped.{is_scraped_by}
 use Rattle.thread_service.proofs.PassLemmas.{some_noted}
-use Rattle.thread_host.specs.Growing.{Grows, GrowsBy, GrowsOnce}
+use Rattle.thread_host.specs.Growing.{Grows, GrowsBy, GrowsOnce, IsHearing, IsRequesting}
 
 once_more : (setup : Setup) (lines : List NumberedLine) (views : List ServiceView) (old mid new : ServiceView) → GrowsBy setup lines views old mid
     → GrowsOnce setup lines mid new → GrowsBy setup lines (views ++ new ∷ []) old new
@@ -44,4 +44,12 @@ pub read_grows : (named setup : Setup) (lines : List NumberedLine) (core : Servi
     → Grows named lines old mid → Grows named lines old new
 read_grows named setup lines core number limit old mid new before after result reads fails =
     let some = some_noted setup core number limit mid new before after result reads fails in
-    grows_more named lines old mid new (inr (inr (some.0, some.1.view)))
+    grows_more named lines old mid new (inr (inr (inl (some.0, some.1.view))))
+
+-- answers were read
+pub hear_grows : (setup : Setup) (lines : List NumberedLine) (old mid new : ServiceView) → IsHearing mid new → Grows setup lines old mid → Grows setup lines old new
+hear_grows setup lines old mid new hears = grows_more setup lines old mid new (inr (inr (inr (inl hears))))
+
+-- a flush request was made
+pub request_grows : (setup : Setup) (lines : List NumberedLine) (old mid new : ServiceView) → IsRequesting mid new → Grows setup lines old mid → Grows setup lines old new
+request_grows setup lines old mid new asks = grows_more setup lines old mid new (inr (inr (inr (inr asks))))

@@ -1,11 +1,12 @@
 -- The service and the writers of a host, as a run names them and as it leaves them.
-use Rattle.std.proofs.Common.{◌≡◌, ◌∙◌, ℕ, ◌+◌, ◌-◌, ◌<◌, ◌≤◌, Option, Some, None, List, ◌++◌, length, length-append, take, drop, sym, subst, arith}
+use Rattle.std.proofs.Common.{◌≡◌, ◌∙◌, ℕ, ◌+◌, ◌-◌, ◌<◌, ◌≤◌, Option, Some, None, List, [], ◌∷◌, ◌++◌, length, length-append, take, drop, sym, subst, arith}
 use Rattle.std.specs.Prelude.{IsSomeAnd, slice_index_or}
 use native.Mathlib.Decide.{dec_lt}
 use mathlib.Core.Logic.{dite}
 use Rattle.std.proofs.Math.Seq.{take-append_seam, get_or-append_right}
 use Rattle.std.proofs.lemmas.List.{get_or_append_left}
 use Rattle.std.proofs.lemmas.Option.{slice_get-get_or, slice_get_within, get_or_from_slice_get}
+use Rattle.trace_model.specs.Calls.{Flushed}
 use Rattle.chunk_plain.specs.Setup.{Setup}
 use Rattle.chunk_words.specs.declared.host.HostTable.{HostTable}
 use Rattle.chunk_words.specs.Named.{identity_of}
@@ -62,12 +63,12 @@ ready_from lines table writers ready =
     }
 
 pub all_played : (lines : List NumberedLine) (table : HostTable) (old new : List TraceWriter) → length old ≡ length (setup_in table).writers
-    → HavePlayedFrom lines table 0 old new → HavePlayed lines table new
+    → HavePlayedFrom lines table 0 old new → HavePlayed lines (Flushed ∷ []) table new
 all_played lines table old new many played = record {
   many = played.many ∙ many;
   each = λ place writer there.
-      subst (HasPlayed lines table place) (get_or_from_slice_get new place writer writer there)
-      (subst (λ (at : ℕ). HasPlayed lines table at (slice_index_or new place writer)) (none_before place)
+      subst (HasPlayed lines (Flushed ∷ []) table place) (get_or_from_slice_get new place writer writer there)
+      (subst (λ (at : ℕ). HasPlayed lines (Flushed ∷ []) table at (slice_index_or new place writer)) (none_before place)
       (played.each place writer (subst (λ (count : ℕ). place < count) played.many (slice_get_within new place writer there))));
 }
 
@@ -81,13 +82,13 @@ both_played lines table from behind firsts rests first rest at one two =
     record {
       many = omega (arith, before, after, front, back);
       each = λ index any below. dite (dec_lt index (length first))
-          (λ inside. subst (HasPlayed lines table (from + index)) (sym (get_or_append_left first rest any index inside))
+          (λ inside. subst (HasPlayed lines (Flushed ∷ []) table (from + index)) (sym (get_or_append_left first rest any index inside))
           (one.each index any (omega (arith, inside, front))))
           (λ outside.
           let beyond : length first ≤ index = omega (arith, outside) in
           let place : behind + (index - length first) ≡ from + index = omega (arith, at, front, beyond) in
-          subst (HasPlayed lines table (from + index)) (sym (get_or-append_right first rest index any beyond))
-          (subst (λ (n : ℕ). HasPlayed lines table n (slice_index_or rest (index - length first) any)) place
+          subst (HasPlayed lines (Flushed ∷ []) table (from + index)) (sym (get_or-append_right first rest index any beyond))
+          (subst (λ (n : ℕ). HasPlayed lines (Flushed ∷ []) table n (slice_index_or rest (index - length first) any)) place
           (two.each (index - length first) any (omega (arith, below, before, front, beyond)))));
     }
 

@@ -21,7 +21,7 @@ use Rattle.claim_arbiter.specs.Claiming.{ClaimsInTurn, lost_asks}
 use Rattle.trace_writer.specs.declared.route.Route.{Route}
 use Rattle.trace_writer.specs.Helping.{LeavesWriters, Tries, Gains, Again, Ends, Works, Done, Silent, Gets, Helped, Refused, Lost, Tried, GivesUp, loses, rounds_for}
 use Rattle.trace_writer.specs.Losing.{LosesBehind}
-use Rattle.trace_writer.specs.OwnSteps.{KeepsChunks, IsQuiet, IsSilent, GetsChunk, IsInVain, IsOutNow}
+use Rattle.trace_writer.specs.OwnSteps.{KeepsChunks, IsQuiet, IsSilent, GetsChunk, IsVainTry, IsOutNow}
 use Rattle.replay_host.specs.Asking.{noted_as}
 use Rattle.run_model.specs.Vain.{GoesOnInTurn, EndsInVain, HasVainRounds, LosesInVain}
 use Rattle.run_model.proofs.InTurnLemmas.{won_append, lost_won, goes_none, goes_both}
@@ -252,8 +252,8 @@ asks_gets setup first count chunk old new claims =
     }
 
 module _ {H : Type 0} (helps : H → ℕ → Bool → H → Type 0) (route : Route) where
-  tries_ask : {left : ℕ} {helper kept : Asks H} {old new : Shared} {seat after : WriterSeat} {stopped : Bool}
-      → Tries (GetsChunk shared.means route) (IsInVain shared.means route)
+  tries_ask : {begins : Bool} {left : ℕ} {helper kept : Asks H} {old new : Shared} {seat after : WriterSeat} {stopped : Bool}
+      → Tries (GetsChunk shared.means route) (IsVainTry shared.means route begins)
       (λ asks table answer behind freed. IsHelp helps asks table route.spec.producer answer behind freed × LeavesWriters shared.means table freed)
       left helper old seat stopped kept new after
       → AsksOn (known_by seat) (known_by after) × ((known_by after).calls ≡ (known_by seat).calls)
@@ -263,14 +263,14 @@ module _ {H : Type 0} (helps : H → ℕ → Bool → H → Type 0) (route : Rou
   )
   tries_ask (Again left helper old seat asking asker answer helped freed stopped kept new after vain helped_it more) =
       let on = tries_ask more in (
-        asks_then (known_by seat) (known_by asker) (known_by after) (asks_vain route.arbiter.first vain.words (known_by seat) (known_by asker) vain.asked vain.chunks) vain.calls on.0,
-        on.1 ∙ vain.calls,
+        asks_then (known_by seat) (known_by asker) (known_by after) (asks_vain route.arbiter.first vain.vain.words (known_by seat) (known_by asker) vain.vain.asked vain.vain.chunks) vain.vain.calls on.0,
+        on.1 ∙ vain.vain.calls,
       )
-  tries_ask (Ends helper old seat new after vain) = (asks_vain route.arbiter.first vain.words (known_by seat) (known_by after) vain.asked vain.chunks, vain.calls)
+  tries_ask (Ends helper old seat new after vain) = (asks_vain route.arbiter.first vain.vain.words (known_by seat) (known_by after) vain.vain.asked vain.vain.chunks, vain.vain.calls)
 
   -- what a writer does for a call adds to its claims, before it notes the call
-  pub works_ask : {policy : WriterPolicy} {helper left : Asks H} {old new : Shared} {seat after : WriterSeat} {stopped : Bool}
-      → Works policy (IsSilent shared.means) (IsQuiet shared.means) (GetsChunk shared.means route) (IsInVain shared.means route) (IsOutNow shared.means route)
+  pub works_ask : {begins : Bool} {policy : WriterPolicy} {helper left : Asks H} {old new : Shared} {seat after : WriterSeat} {stopped : Bool}
+      → Works policy (IsSilent shared.means) (IsQuiet shared.means) (GetsChunk shared.means route) (IsVainTry shared.means route begins) (IsOutNow shared.means route)
       (λ asks table answer behind freed. IsHelp helps asks table route.spec.producer answer behind freed × LeavesWriters shared.means table freed)
       helper old seat stopped left new after
       → AsksOn (known_by seat) (known_by after)

@@ -8,9 +8,15 @@ pub mod Collected
 pub mod Growing
 pub mod Made
 pub mod Seating
+pub mod Helped
 pub mod Going
 pub mod PlayedLines
 pub mod PlayedWriters
+pub mod Polled
+pub mod LastAnswers
+pub mod TallyLemmas
+pub mod ReadAnswers
+pub mod SettledAnswers
 pub mod Closing
 pub mod DoneAll
 pub mod Ended

@@ -11,7 +11,7 @@ use Rattle.scenario_text.specs.Scenario.{IsScenario, Parts, parts_of}
 use Rattle.scenario_text.proofs.ShortLemmas.{scenario_is_short}
 use Rattle.chunk_plain.specs.Plain.{first_world}
 use Rattle.chunk_plain.specs.Setup.{Setup, sequence_of}
-use Rattle.chunk_plain.specs.Views.{At, ServiceView, WriterView, newcomer, taken_of}
+use Rattle.chunk_plain.specs.Views.{At, ServiceView, WriterView, asked_in, newcomer, taken_of}
 use Rattle.run_model.specs.Collected.{CollectedByLines}
 use Rattle.run_model.specs.Scraped.{has_part}
 use Rattle.chunk_words.specs.declared.host.HostTable.{HostTable}
@@ -19,11 +19,14 @@ use Rattle.chunk_words.specs.declared.seats.WriterSeat.{WriterSeat}
 use Rattle.chunk_words.specs.Sits.{setup_in}
 use Rattle.world_model.specs.FirstBuffers.{payload_at, first_buffers}
 use Rattle.trace_buffer.specs.declared.answers.BufferSpec.{BufferSpec}
+use Rattle.session_core.specs.declared.answers.SessionState.TheVariants.{Started}
 use Rattle.service_core.specs.Agreement.{is_closed, spec_at, spec_value}
 use Rattle.replay_host.specs.Asking.{IsReadyFor}
 use Rattle.replay_host.specs.Making.{buffer_asked}
 use Rattle.replay_host.proofs.BuiltLemmas.{unused}
-use Rattle.replay_host.proofs.MadeLemmas.{all_ready}
+use Rattle.replay_host.specs.Lines.{MOST_REQUESTS}
+use Rattle.replay_model.specs.Flushes.{requests_in}
+use Rattle.replay_host.proofs.MadeLemmas.{all_ready, requests_few}
 use Rattle.replay_host.proofs.MakingLemmas.{asked_values}
 use Rattle.replay_host.proofs.SetUpLemmas.{asks_well}
 use Rattle.thread_service.specs.declared.service.Service.{Service}
@@ -67,6 +70,10 @@ module _ (scenario : Scenario) (is : IsScenario scenario) (none : ClosesNone sce
         };
   }
 
+-- its requests have numbers of 32 bits
+pub requests_fit : (scenario : Scenario) → IsScenario scenario → requests_in scenario.lines < MOST_REQUESTS
+requests_fit scenario is = let requests = requests_few scenario.lines in let lines = (scenario_is_short scenario is).few in omega (arith, requests, lines)
+
 -- ---- the service
 
 -- a service of the table with which nothing was noted, whose sequences are open
@@ -75,14 +82,16 @@ pub is_served : (scenario : Parts) (table : HostTable) (service : Service) → S
     → ((place : ℕ) → place < length scenario.writers → is_closed (setup_in table) (serving.core_of service) place ≡ false)
     → (serving.core_of service).specs.items ≡ map buffer_asked scenario.buffers
     → serving.view_in service ≡ (first_world (setup_in table)).service
-    → IsServed scenario table service
-is_served scenario table service serves laid opened buffers view = record {
+    → (serving.core_of service).session.state ≡ Started → IsServed scenario table service
+is_served scenario table service serves laid opened buffers view started = record {
   serves = serves;
   opened = λ place below. opened place (subst (λ (specs : List WriterSpec). place < length specs) laid below);
   began = ap (λ (specs : List BufferSpec). first_buffers (setup_in table) 1 (map spec_value specs)) buffers
       ∙ ap (first_buffers (setup_in table) 1) (asked_values scenario.buffers);
   own = ap (λ (v : ServiceView). v.commits) view;
   scraped = λ place below other. ap (λ (v : ServiceView). has_part (sequence_of place) v.events) view;
+  started = started;
+  few = let none = ap (λ (v : ServiceView). asked_in v.letters) view in omega (arith, none);
 }
 
 -- nothing was taken yet

@@ -156,7 +156,11 @@ once_scraped setup lines old new (inr (inl scrape)) scraped =
     scrape_apart setup scrape.0 scrape.1 place old new scrape.3
     (λ same. absurd (let wrong : true ≡ false = sym scrape.2 ∙ ap (is_scraped_by lines) (sym same) ∙ other in cc))
     ∙ scraped place inside other
-once_scraped setup lines old new (inr (inr read)) scraped =
+once_scraped setup lines old new (inr (inr (inr (inl hears)))) scraped =
+    none_scraped setup lines old new (λ sequence. ap (λ (v : ServiceView). has_part sequence v.events) hears.2) scraped
+once_scraped setup lines old new (inr (inr (inr (inr asks)))) scraped =
+    none_scraped setup lines old new (λ sequence. ap (λ (v : ServiceView). has_part sequence v.events) asks) scraped
+once_scraped setup lines old new (inr (inr (inl read))) scraped =
     none_scraped setup lines old new
     (λ sequence. noted_none sequence old.events (flat_map noted_read read.0) new.events (ap (λ (v : ServiceView). v.events) read.1) (reads_none sequence read.0))
     scraped

@@ -10,7 +10,7 @@ use Rattle.chunk_plain.specs.declared.tokens.TheConstants.{ID_LIMIT}
 use Rattle.chunk_plain.specs.Histories.{completed_images}
 use Rattle.chunk_plain.specs.Owned.{held_count}
 use Rattle.chunk_plain.specs.Setup.{producer_of, IsChunkOf}
-use Rattle.chunk_plain.specs.Views.{At, BegunChunk, chunk_of, Held, Completed, Content, ServiceView, WriterView, newcomer}
+use Rattle.chunk_plain.specs.Views.{At, BegunChunk, chunk_of, Held, Completed, Content, ServiceView, WriterView, asked_in, newcomer}
 use Rattle.chunk_words.specs.declared.host.HostTable.{HostTable}
 use Rattle.chunk_words.specs.declared.seats.ServiceSeat.{ServiceSeat}
 use Rattle.chunk_words.specs.declared.seats.WriterSeat.{WriterSeat}
@@ -22,11 +22,12 @@ use Rattle.scenario_text.specs.declared.scenario.NumberedLine.{NumberedLine}
 use Rattle.scenario_text.specs.Scenario.{Parts}
 use Rattle.loss_report.specs.declared.counts.SequenceCounts.{SequenceCounts}
 use Rattle.service_core.specs.declared.service.ServiceCore.{ServiceCore}
-use Rattle.service_core.specs.Agreement.{KeepsRest, is_closed}
-use Rattle.service_core.proofs.AgreeLemmas.{first_stays}
+use Rattle.trace_buffer.specs.declared.answers.BufferSpec.{BufferSpec}
+use Rattle.world_model.specs.FirstBuffers.{first_buffers}
+use Rattle.service_core.specs.Agreement.{spec_value}
 use Rattle.replay_model.proofs.ScrapedLemmas.{counted}
 use Rattle.replay_host.proofs.MakingLemmas.{pushed_each}
-use Rattle.run_model.specs.Settled.{HasDoneLines}
+use Rattle.run_model.specs.Settled.{HasDoneLines, last_flushes}
 use Rattle.thread_service.specs.declared.service.Service.{Service}
 use Rattle.thread_service.specs.Serving as serving
 use Rattle.thread_service.specs.Serving.{Serves, IsOnlySeat}
@@ -35,6 +36,7 @@ use Rattle.thread_writer.specs.declared.writer.TraceWriter.{TraceWriter}
 use Rattle.thread_writer.specs.Writing.{core_of, view_in}
 use Rattle.thread_host.specs.Ending.{begun_counts, no_counts, IsDoneSeat, AreDoneSeats, HasHeard, HasHeardAll}
 use Rattle.thread_host.specs.Hosts.{HasPlayed, IsServed}
+use Rattle.thread_host.specs.Tally.{KeepsServing}
 use Rattle.thread_host.proofs.Parts.{AddsNoPart, none_scraped}
 
 -- ---- lists
@@ -49,39 +51,31 @@ left_first (y ∷ xs) ys x some is rest = let first : y ≡ x = sym is in let ot
 pub only_both : (old mid new : ServiceCore ServiceSeat) → IsOnlySeat old mid → IsOnlySeat mid new → IsOnlySeat old new
 only_both old mid new first second = ap (λ (core : ServiceCore ServiceSeat). record core { seat = old.seat }) second ∙ first
 
-pub only_keeps : (table : HostTable) (old new : ServiceCore ServiceSeat) → IsOnlySeat old new → KeepsRest (setup_in table) old new
-only_keeps table old new only = record {
-  fields = record {
-    layout = ap (λ (core : ServiceCore ServiceSeat). core.layout) only;
-    specs = ap (λ (core : ServiceCore ServiceSeat). core.specs.items) only;
-    writers = ap (λ (core : ServiceCore ServiceSeat). core.writers.items) only;
-    session = ap (λ (core : ServiceCore ServiceSeat). core.session) only;
-  };
-  closed = λ place inside. ap (λ (core : ServiceCore ServiceSeat). is_closed (setup_in table) core place) only;
-}
-
 -- it is served on
 pub served_on : (scenario : Parts) (table : HostTable) (old new : Service) → IsServed scenario table old → Serves table new
-    → KeepsRest (setup_in table) (serving.core_of old) (serving.core_of new) → (serving.view_in new).commits ≡ (serving.view_in old).commits
-    → AddsNoPart (serving.view_in old) (serving.view_in new) → IsServed scenario table new
-served_on scenario table old new served serves keeps own none = record {
+    → KeepsServing (setup_in table) (serving.core_of old) (serving.core_of new) → (serving.view_in new).commits ≡ (serving.view_in old).commits
+    → AddsNoPart (serving.view_in old) (serving.view_in new) → asked_in (serving.view_in new).letters ≡ asked_in (serving.view_in old).letters
+    → IsServed scenario table new
+served_on scenario table old new served serves keeps own none asked = record {
   serves = serves;
   opened = λ place inside. keeps.closed place inside ∙ served.opened place inside;
-  began = first_stays (setup_in table) (serving.core_of old) (serving.core_of new) keeps.fields ∙ served.began;
+  began = ap (λ (specs : List BufferSpec). first_buffers (setup_in table) 1 (map spec_value specs)) keeps.specs ∙ served.began;
   own = own ∙ served.own;
   scraped = none_scraped (setup_in table) scenario.lines (serving.view_in old) (serving.view_in new) none served.scraped;
+  started = keeps.session.state ∙ served.started;
+  few = let few = served.few in omega (arith, asked, few);
 }
 
 -- ---- one writer
 
 -- the seat that a writer leaves
 pub done_seat : (lines : List NumberedLine) (table : HostTable) (place : ℕ) (writer : TraceWriter) (seat : WriterSeat) (counts : SequenceCounts)
-    → HasPlayed lines table place writer → Sits table seat → known_by seat ≡ view_in writer → seat.place ≡ (core_of writer).seat.place
+    → HasPlayed lines last_flushes table place writer → Sits table seat → known_by seat ≡ view_in writer → seat.place ≡ (core_of writer).seat.place
     → counts ≡ begun_counts (view_in writer).calls → IsDoneSeat lines table place seat counts
 done_seat lines table place writer seat counts played sits knows same counted_ = record {
   sits = sits;
   place_is = same ∙ played.place_is;
-  done = subst (λ (v : WriterView). HasDoneLines (setup_in table) lines place v) (sym knows) played.done;
+  done = subst (λ (v : WriterView). HasDoneLines (setup_in table) lines last_flushes place v) (sym knows) played.done;
   counts_are = counted_ ∙ ap (λ (v : WriterView). begun_counts v.calls) (sym knows);
 }
 
@@ -90,7 +84,7 @@ few_begun begun none few = let all = counted begun in omega (arith, all, none, f
 
 -- what the service hears of it
 pub heard_last : (lines : List NumberedLine) (table : HostTable) (place : ℕ) (view : ServiceView) (desk : Desk) (writer : TraceWriter) (seat : WriterSeat)
-    → HasPlayed lines table place writer → known_by seat ≡ view_in writer → length (completed_images (view_in writer).begun) ≤ ID_LIMIT
+    → HasPlayed lines last_flushes table place writer → known_by seat ≡ view_in writer → length (completed_images (view_in writer).begun) ≤ ID_LIMIT
     → HasHeard (length view.looks) (with_tale desk view (core_of writer).seat.place (view_in writer).begun (last_flush (view_in writer).letters.answers)) place seat
 heard_last lines table place view desk writer seat played knows few =
     let begun = (view_in writer).begun in
@@ -101,6 +95,7 @@ heard_last lines table place view desk writer seat played knows few =
       told = at_seam desk.told [] tale;
       place_is = played.place_is;
       begun_is = ap (λ (v : WriterView). v.begun) (sym knows);
+      flush_is = ap (λ (v : WriterView). last_flush v.letters.answers) (sym knows);
       heard = omega arith;
       few = subst (λ (v : WriterView). length v.begun ≤ ID_LIMIT) (sym knows) (few_begun begun played.done.none_held few);
     }
@@ -114,6 +109,7 @@ heard_more looks desk view number begun flush place seat heard = record {
   told = at_longer desk.told (record { place = number; looks = length view.looks; begun = begun; flush = flush } ∷ []) heard.number heard.tale heard.told;
   place_is = heard.place_is;
   begun_is = heard.begun_is;
+  flush_is = heard.flush_is;
   heard = heard.heard;
   few = heard.few;
 }

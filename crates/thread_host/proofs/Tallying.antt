@@ -24,7 +24,7 @@ use Rattle.scenario_text.specs.Scenario.{Parts}
 use Rattle.service_core.specs.Agreement.{first_of, buffer_of, spec_at, spec_value, no_writer}
 use Rattle.service_core.specs.Routing.{buffer_at}
 use Rattle.service_core.proofs.RouteLemmas.{length_after}
-use Rattle.replay_model.specs.Played.{IsSetupOf, buffers_of, buffers_in as buffers_of_world, packet_counts, printed, report_of, AreBalanced}
+use Rattle.replay_model.specs.Played.{IsSetupOf, buffers_of, buffers_in as buffers_of_world, packet_counts, printed, report_with, AreBalanced}
 use Rattle.replay_model.proofs.BalanceLemmas.{count_at}
 use Rattle.replay_model.proofs.PlayedLemmas.{setup_writers}
 use Rattle.replay_host.proofs.CountingLemmas.{left_is, map_each, counts_long, left_in}
@@ -106,9 +106,9 @@ module _ (scenario : Parts) (setup : Setup) (laid : IsSetupOf scenario setup) (s
       → ((place : ℕ) (seat : WriterSeat) → slice_get seats place ≡ Some seat → slice_index_or told place no_counts ≡ begun_counts (known_by seat).calls)
       → ((place : ℕ) → place < length setup.writers
       → slice_index_or items place no_counts ≡ packets_in setup service place (slice_index_or told place no_counts))
-      → report_text (map answers.counts_of (buffers_in setup service)) items []
-      ≡ report_of scenario setup (record { chunks = []; writers = views_of seats; service = view_in service }) []
-  report_is balanced told items long begun each =
-      ap (λ all. report_text (map answers.counts_of all) items []) buffers_are
-      ∙ ap (λ all. report_text (map answers.counts_of (buffers_of_world scenario setup world)) all [])
+      → (sums : List ℕ) → report_text (map answers.counts_of (buffers_in setup service)) items sums
+      ≡ report_with scenario setup (record { chunks = []; writers = views_of seats; service = view_in service }) sums
+  report_is balanced told items long begun each sums =
+      ap (λ all. report_text (map answers.counts_of all) items sums) buffers_are
+      ∙ ap (λ all. report_text (map answers.counts_of (buffers_of_world scenario setup world)) all sums)
       (sequences_are balanced told items long begun each)

@@ -1,5 +1,5 @@
 -- What lines tell, one behind another.
-use Rattle.std.proofs.Common.{◌≡◌, ◌⊎◌, inl, inr, ℕ, ◌-◌, Result, Ok, Err, IfOk, OnErr, List, [], ◌∷◌, ◌++◌, length, refl, sym, ap, ◌∙◌, subst, append_assoc, append-nil, length-append, arith}
+use Rattle.std.proofs.Common.{◌≡◌, ◌⊎◌, inl, inr, ℕ, ◌+◌, ◌-◌, Result, Ok, Err, IfOk, OnErr, List, [], ◌∷◌, ◌++◌, length, refl, sym, ap, ◌∙◌, subst, append_assoc, append-nil, length-append, arith}
 use Rattle.std.specs.List.{flat_map}
 use Rattle.std.proofs.lemmas.List.Concat.{flat_map-append}
 use Rattle.byte_io.specs.Bytes.{Intake, told, untold, after_told, TakesPart}
@@ -11,7 +11,7 @@ use Rattle.trace_model.specs.History as model
 use Rattle.trace_model.specs.History.{buffers_after, records_at, records_after, reads_of}
 use Rattle.chunk_plain.specs.Histories.{history_of}
 use Rattle.chunk_plain.specs.Setup.{Setup}
-use Rattle.chunk_plain.specs.Views.{Noted, ServiceView}
+use Rattle.chunk_plain.specs.Views.{Noted, ServiceView, asked_in}
 use Rattle.scenario_text.specs.declared.scenario.LineKind.{LineKind}
 use Rattle.scenario_text.specs.declared.scenario.LineKind.TheVariants.{Packet, Begin, Add, Nest, Unnest, End, Flush, Collect, Scrape, Close, Read, Request}
 use Rattle.scenario_text.specs.declared.scenario.NumberedLine.{NumberedLine}
@@ -24,6 +24,8 @@ use Rattle.service_core.proofs.RouteLemmas.{buffers_append}
 use Rattle.thread_service.specs.Reading.{GoesUnread, PassReads}
 use Rattle.thread_service.proofs.GoingOn.{unread_both}
 use Rattle.run_model.specs.Reads.{reads_by, GoesByReads, ReadsUpTo}
+use Rattle.replay_model.specs.Flushes.{request_count}
+use Rattle.thread_host.proofs.Counted.{none_requested, requests_more}
 use Rattle.thread_host.specs.Jobs.{loans_of, KeepsLoans, FailsLine, FailsLines, TellsMore, TellsReads, TellsLine, TellsLines, TellsUpTo}
 
 -- ---- histories that go on
@@ -110,7 +112,7 @@ tells_both first firsts others old mid new before between after one other = reco
 
 -- no line tells nothing
 pub tells_none : (setup : Setup) (first : List Buffer) (view : ServiceView) (taken : Intake) → TellsLines setup first [] view view taken taken
-tells_none setup first view taken = record { reads = unread_none (history_of view); tells = tells_nothing first view taken }
+tells_none setup first view taken = record { reads = unread_none (history_of view); requests = omega arith; tells = tells_nothing first view taken }
 
 -- one line more
 pub tells_more : (setup : Setup) (first : List Buffer) (lines : List NumberedLine) (line : NumberedLine) (old mid new : ServiceView) (before between after : Intake)
@@ -118,6 +120,9 @@ pub tells_more : (setup : Setup) (first : List Buffer) (lines : List NumberedLin
     → TellsLines setup first (lines ++ line ∷ []) old new before after
 tells_more setup first lines line old mid new before between after one other = record {
   reads = reads_behind setup first lines line (history_of old) (history_of mid) other.here (history_of new) one.reads other.goes other.reads;
+  requests =
+      let before = one.requests in let last = other.requests in let both = requests_more lines line in
+      omega (arith, before, last, both);
   tells = tells_again first old mid new before between after one.tells other.tells;
 }
 
@@ -156,13 +161,15 @@ module _ {S : Type 0} (setup : Setup) (core : ServiceCore S) (number limit deliv
     tells = taken_more;
   }
 
-  pub line_read_tells : (first : List Buffer) → first_of setup core ≡ first → TellsLine setup first (Read number limit) passed pass before after
-  line_read_tells first same = subst (λ (bs : List Buffer). TellsLine setup bs (Read number limit) passed pass before after) same (record {
+  pub line_read_tells : (first : List Buffer) → first_of setup core ≡ first → asked_in pass.letters ≡ asked_in passed.letters
+      → TellsLine setup first (Read number limit) passed pass before after
+  line_read_tells first same asked = subst (λ (bs : List Buffer). TellsLine setup bs (Read number limit) passed pass before after) same (record {
     here = known.before;
     goes = known.goes;
     reads = known.history
         ∙ ap (λ (es : List model.Event). known.before ++ es)
         (same_reads setup core.buffers.items (buffers_after (first_of setup core) known.before) number limit known.buffers);
+    requests = omega (arith, asked);
     tells = taken_more;
   })
 
@@ -170,10 +177,10 @@ module _ {S : Type 0} (setup : Setup) (core : ServiceCore S) (number limit deliv
 pub locked_tells : {S : Type 0} (setup : Setup) (core : ServiceCore S) (number limit : ℕ) (old new passed pass : ServiceView) (before after : Intake) (first : List Buffer)
     → first_of setup core ≡ first → (result : Result ℕ WriteFault) → IfOk result (λ delivered. ReadsAll setup core number limit old new before after delivered)
     → ((events : List model.Event) → NotesReads setup core events old new → PassReads setup core events passed pass)
-    → IfOk result (λ _. TellsLine setup first (Read number limit) passed pass before after)
-locked_tells setup core number limit old new passed pass before after first same (Ok delivered) reads passes =
-    line_read_tells setup core number limit delivered old new passed pass before after reads passes first same
-locked_tells setup core number limit old new passed pass before after first same (Err fault) reads passes = tt
+    → asked_in pass.letters ≡ asked_in passed.letters → IfOk result (λ _. TellsLine setup first (Read number limit) passed pass before after)
+locked_tells setup core number limit old new passed pass before after first same (Ok delivered) reads passes asked =
+    line_read_tells setup core number limit delivered old new passed pass before after reads passes first same asked
+locked_tells setup core number limit old new passed pass before after first same (Err fault) reads passes asked = tt
 
 -- ---- where a write failed
 
@@ -309,11 +316,12 @@ fails_behind setup first done line later old mid new before between after tells 
 
 -- ---- a line that is no read tells nothing
 line_tells : (setup : Setup) (first : List Buffer) (line : LineKind) (view : ServiceView) (taken : Intake) → ((buffers : List Buffer) → reads_by setup buffers line ≡ [])
-    → TellsLine setup first line view view taken taken
-line_tells setup first line view taken none = record {
+    → request_count line ≡ 0 → TellsLine setup first line view view taken taken
+line_tells setup first line view taken none asks = record {
   here = history_of view;
   goes = unread_none (history_of view);
   reads = sym (append-nil (history_of view)) ∙ ap (λ (es : List model.Event). history_of view ++ es) (sym (none (buffers_after first (history_of view))));
+  requests = omega (arith, asks);
   tells = tells_nothing first view taken;
 }
 
@@ -332,18 +340,30 @@ none_read setup (Read buffer limit) not buffers = absurd (not buffer limit refl)
 none_read setup Request not buffers = refl
 
 pub unread_tells : (setup : Setup) (first : List Buffer) (line : LineKind) (view : ServiceView) (taken : Intake)
-    → ((buffer limit : ℕ) → line ≡ Read buffer limit → ⊥) → TellsLine setup first line view view taken taken
-unread_tells setup first line view taken not = line_tells setup first line view taken (none_read setup line not)
+    → ((buffer limit : ℕ) → line ≡ Read buffer limit → ⊥) → (line ≡ Request → ⊥) → TellsLine setup first line view view taken taken
+unread_tells setup first line view taken not apart = line_tells setup first line view taken (none_read setup line not) (none_requested line apart)
 
 pub collect_tells : (setup : Setup) (first : List Buffer) (line : LineKind) (producer : ℕ) (view : ServiceView) (taken : Intake) → line ≡ Collect producer
     → TellsLine setup first line view view taken taken
 collect_tells setup first line producer view taken is =
-    line_tells setup first line view taken (λ buffers. ap (λ (l : LineKind). reads_by setup buffers l) is)
+    line_tells setup first line view taken (λ buffers. ap (λ (l : LineKind). reads_by setup buffers l) is) (ap request_count is)
 
 pub scrape_tells : (setup : Setup) (first : List Buffer) (line : LineKind) (producer : ℕ) (view : ServiceView) (taken : Intake) → line ≡ Scrape producer
     → TellsLine setup first line view view taken taken
 scrape_tells setup first line producer view taken is =
-    line_tells setup first line view taken (λ buffers. ap (λ (l : LineKind). reads_by setup buffers l) is)
+    line_tells setup first line view taken (λ buffers. ap (λ (l : LineKind). reads_by setup buffers l) is) (ap request_count is)
+
+-- ---- a flush request with the pass, which knows all that was noted by then
+pub request_tells : {S : Type 0} (setup : Setup) (core : ServiceCore S) (first : List Buffer) (passed pass : ServiceView) (taken : Intake) → first_of setup core ≡ first
+    → PassReads setup core [] passed pass → asked_in pass.letters ≡ asked_in passed.letters + 1 → TellsLine setup first Request passed pass taken taken
+request_tells setup core first passed pass taken same passes asked =
+    subst (λ (bs : List Buffer). TellsLine setup bs Request passed pass taken taken) same (record {
+      here = passes.before;
+      goes = passes.goes;
+      reads = passes.history;
+      requests = asked;
+      tells = record { more = []; records = passes.records; taken = sym (after_told_nothing taken) };
+    })
 
 -- ---- a sink hands its bytes on as before, whatever it took
 

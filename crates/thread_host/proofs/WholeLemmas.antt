@@ -1,5 +1,5 @@
 -- What the jobs told, and what was read and counted behind them, is a run of the scenario, whole or up to a write that failed.
-use Rattle.std.proofs.Common.{◌≡◌, ◌∙◌, inl, inr, List, [], ◌++◌, sym, ap, subst}
+use Rattle.std.proofs.Common.{◌≡◌, ◌∙◌, inl, inr, List, [], ◌++◌, sym, ap, subst, arith}
 use Rattle.std.specs.List.{flat_map}
 use Rattle.byte_io.specs.Bytes.{Intake, after_told, TakesPart}
 use Rattle.byte_io.proofs.Told.{after_told_again}
@@ -8,13 +8,14 @@ use Rattle.trace_model.specs.Delivery.{Delivered, trace_of}
 use Rattle.trace_model.specs.History as model
 use Rattle.trace_model.specs.History.{records_after}
 use Rattle.chunk_plain.specs.Setup.{Setup}
-use Rattle.chunk_plain.specs.Views.{Noted, ServiceView}
+use Rattle.chunk_plain.specs.Views.{Noted, ServiceView, asked_in}
 use Rattle.chunk_plain.specs.Histories.{history_of, happened}
 use Rattle.chunk_words.specs.Sits.{setup_in, known_by_pass}
 use Rattle.loss_report.specs.declared.counts.Done.{Done}
 use Rattle.scenario_text.specs.declared.scenario.Scenario.{Scenario}
 use Rattle.scenario_text.specs.Scenario.{IsScenario, Parts, parts_of}
 use Rattle.service_core.proofs.ReadingLemmas.{trace_append}
+use Rattle.replay_model.specs.Flushes.{requests_in}
 use Rattle.replay_model.specs.Played.{buffers_of, records_in}
 use Rattle.replay_host.proofs.ReplayingLemmas.{is_playable}
 use Rattle.thread_service.proofs.GoingOn.{same_records}
@@ -24,6 +25,8 @@ use Rattle.run_model.specs.Runs.{FailsRun}
 use Rattle.run_model.specs.Settled.{IsRun}
 use Rattle.run_model.specs.Stopped.{StopsInEnd, StopsInLines}
 use Rattle.thread_host.specs.Finishing.{HasFailed, HasFinished, HasLetGo, HasRun}
+use Rattle.thread_service.specs.Serving.{view_in}
+use Rattle.thread_host.specs.Hosts.{HasReadAnswers}
 use Rattle.thread_host.specs.Jobs.{FailsLines, TellsLines}
 use Rattle.thread_host.specs.declared.settled.Settled.{Settled}
 
@@ -32,16 +35,21 @@ module _ (faithful : EveryRunIsFaithful) (balanced : EveryRunIsBalanced) (counte
       → first.events ≡ []
       → TellsLines (setup_in settled.table) (buffers_of (parts_of scenario) (setup_in settled.table)) (parts_of scenario).lines
       first (known_by_pass settled.pass) before between
+      → asked_in first.letters ≡ 0 → asked_in (view_in settled.service).letters ≡ asked_in (known_by_pass settled.pass).letters
+      → HasReadAnswers settled.table (view_in settled.service)
       → HasFinished (parts_of scenario) settled between after done → HasRun (parts_of scenario) before after done
-  has_run scenario settled first before between after done is none tells finished =
+  has_run scenario settled first before between after done is none tells unasked same_asked answered finished =
       let setup = setup_in settled.table in
       let known = known_by_pass settled.pass in
       let playable = is_playable scenario is in
       let world = finished.ended.world in
       let unread : history_of first ≡ [] = ap (λ (notes : List Noted). flat_map (happened first) notes) none in
+      let requests : asked_in (view_in settled.service).letters ≡ requests_in (parts_of scenario).lines =
+      (let told = tells.requests in omega (arith, told, unasked, same_asked)) in
       let run : IsRun (parts_of scenario) setup world = finished.run
       (subst (λ (history : List model.Event). GoesByReads setup (buffers_of (parts_of scenario) setup) (parts_of scenario).lines history (history_of known))
-      unread tells.reads) in
+      unread tells.reads)
+      (record { requests = requests; last = answered }) in
       let nothing : records_after (buffers_of (parts_of scenario) setup) (history_of first) ≡ [] =
       ap (λ (history : List model.Event). records_after (buffers_of (parts_of scenario) setup) history) unread in
       let records : records_in (parts_of scenario) setup world ≡ tells.tells.more ++ finished.ended.more =
@@ -57,7 +65,7 @@ module _ (faithful : EveryRunIsFaithful) (balanced : EveryRunIsBalanced) (counte
             ∙ after_told_again before (trace_of tells.tells.more) (trace_of finished.ended.more)
             ∙ ap (after_told before) (sym (trace_append tells.tells.more finished.ended.more))
             ∙ ap (λ (records : List Delivered). after_told before (trace_of records)) (sym records);
-        report = finished.report (balanced (parts_of scenario) setup world run playable.few playable.set_up);
+        report = finished.report (balanced (parts_of scenario) setup world run playable.few playable.set_up) requests;
         faithful = faithful (parts_of scenario) setup world run;
         balanced = balanced (parts_of scenario) setup world run playable.few playable.set_up;
         counted = counted (parts_of scenario) setup world run playable.few playable.set_up;

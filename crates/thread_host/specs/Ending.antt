@@ -3,6 +3,7 @@ use Rattle.std.specs.Prelude.{◌≡◌, ℕ, ◌≤◌, List, Some, length, sli
 use Rattle.trace_model.specs.Calls.{Call}
 use Rattle.trace_model.specs.Packets.{begun_count, dropped_at_begin}
 use Rattle.chunk_plain.specs.declared.tokens.TheConstants.{ID_LIMIT}
+use Rattle.chunk_plain.specs.Letters.{last_flush}
 use Rattle.chunk_plain.specs.Views.{At, ServiceView, taken_of}
 use Rattle.chunk_words.specs.declared.host.HostTable.{HostTable}
 use Rattle.chunk_words.specs.declared.seats.WriterSeat.{WriterSeat}
@@ -11,7 +12,7 @@ use Rattle.chunk_words.specs.Sits.{Sits, setup_in, known_by}
 use Rattle.trace_writer.specs.Agreement.{counted}
 use Rattle.scenario_text.specs.declared.scenario.NumberedLine.{NumberedLine}
 use Rattle.loss_report.specs.declared.counts.SequenceCounts.{SequenceCounts}
-use Rattle.run_model.specs.Settled.{HasDoneLines}
+use Rattle.run_model.specs.Settled.{HasDoneLines, last_flushes}
 
 -- what a writer counts by itself of its packets, by the calls that it noted
 abbrev pub begun_counts : List Call → SequenceCounts
@@ -32,7 +33,7 @@ no_counts = record { begun = 0; delivered = 0; dropped = 0; overwritten = 0; dis
 pub record IsDoneSeat (lines : List NumberedLine) (table : HostTable) (place : ℕ) (seat : WriterSeat) (counts : SequenceCounts) : Type 0 where
   pub sits : Sits table seat
   pub place_is : seat.place ≡ place
-  pub done : HasDoneLines (setup_in table) lines place (known_by seat)
+  pub done : HasDoneLines (setup_in table) lines last_flushes place (known_by seat)
   pub counts_are : counts ≡ begun_counts (known_by seat).calls
 
 -- those of the first writers, in their order
@@ -40,13 +41,14 @@ abbrev pub AreDoneSeats : List NumberedLine → HostTable → List WriterSeat �
 AreDoneSeats lines table seats sequences = (place : ℕ) (seat : WriterSeat) → slice_get seats place ≡ Some seat
     → IsDoneSeat lines table place seat (slice_index_or sequences place no_counts)
 
--- The service has heard of all that the writer of the seat has begun.
+-- The service has heard of all that the writer of the seat has begun, and of its last answer.
 pub record HasHeard (looks : ℕ) (desk : Desk) (place : ℕ) (seat : WriterSeat) : Type 0 where
   pub number : ℕ
   pub tale : Tale
   pub told : At desk.told number tale
   pub place_is : tale.place ≡ place
   pub begun_is : tale.begun ≡ (known_by seat).begun
+  pub flush_is : tale.flush ≡ last_flush (known_by seat).letters.answers
   pub heard : tale.looks ≤ looks
   pub few : length (known_by seat).begun ≤ ID_LIMIT
 

@@ -8,7 +8,7 @@ use Rattle.trace_model.specs.History as model
 use Rattle.trace_model.specs.History.{records_after}
 use Rattle.chunk_plain.specs.Histories.{history_of}
 use Rattle.chunk_plain.specs.Setup.{Setup, producer_of}
-use Rattle.chunk_plain.specs.Views.{ServiceView}
+use Rattle.chunk_plain.specs.Views.{ServiceView, asked_in}
 use Rattle.chunk_plain.specs.World.{World}
 use Rattle.chunk_words.specs.Closed.{IsAccount, views_of}
 use Rattle.chunk_words.specs.Sits.{setup_in, known_by_pass}
@@ -19,7 +19,9 @@ use Rattle.service_core.specs.Agreement.{is_closed}
 use Rattle.service_core.specs.Reading.{noted_read}
 use Rattle.replay_host.specs.declared.fault.HostFault.{HostFault}
 use Rattle.replay_host.specs.declared.fault.HostFault.TheVariants.{OutOfMemory, WriteFault, Stalled}
-use Rattle.replay_model.specs.Played.{buffers_of, records_in, packet_counts, report_of, AreBalanced}
+use Rattle.replay_model.specs.Flushes.{requests_in}
+use Rattle.replay_model.specs.Played.{buffers_of, records_in, packet_counts, report_with, AreBalanced}
+use Rattle.run_model.specs.Answered.{HasAnsweredAll, run_sums}
 use Rattle.run_model.specs.Collected.{IsTakenBy}
 use Rattle.run_model.specs.Reads.{GoesByReads}
 use Rattle.run_model.specs.Runs.{FailsRun, Runs}
@@ -72,9 +74,9 @@ pub record HasEnded (scenario : Parts) (settled : Settled) : Type 0 where
       ≡ records_after (buffers_of scenario (setup_in settled.table)) (history_of (known_by_pass settled.pass)) ++ more
 
 -- What was settled has ended whole: behind the closes each buffer of the scenario was read in rising number, without limit, and the service
--- knows nothing more. Where the history that the pass knew went on by the reads of the scenario's lines, the scenario was run. The sink
--- took exactly the records that the world's history writes behind those that the pass knew, and the counts are those of its report, where
--- it counts each packet once.
+-- knows nothing more. Where the history that the pass knew went on by the reads of the scenario's lines, and all flush requests were made and
+-- answered, the scenario was run. The sink took exactly the records that the world's history writes behind those that the pass knew, and the
+-- counts are those of its report, where it counts each packet once and all requests were made.
 pub record HasFinished (scenario : Parts) (settled : Settled) (old new : Intake) (done : Done) : Type 0 where
   pub ended : HasEnded scenario settled
   pub last : List model.Event
@@ -82,10 +84,13 @@ pub record HasFinished (scenario : Parts) (settled : Settled) (old new : Intake)
       ended.world.service
   pub run : GoesByReads (setup_in settled.table) (buffers_of scenario (setup_in settled.table)) scenario.lines []
       (history_of (known_by_pass settled.pass))
+      → HasAnsweredAll scenario (setup_in settled.table) (view_in settled.service)
       → IsRun scenario (setup_in settled.table) ended.world
   pub taken : new ≡ after_told old (trace_of ended.more)
   pub report : AreBalanced (packet_counts scenario (setup_in settled.table) ended.world)
-      → report_text done.buffers.items done.sequences.items done.flushes.items ≡ report_of scenario (setup_in settled.table) ended.world []
+      → asked_in (view_in settled.service).letters ≡ requests_in scenario.lines
+      → report_text done.buffers.items done.sequences.items done.flushes.items
+      ≡ report_with scenario (setup_in settled.table) ended.world (run_sums (length (setup_in settled.table).writers) ended.world.service.letters)
 
 -- A write failed at the end: behind the closes the buffers of the scenario were read in rising number as far as this record, each without
 -- limit, and the service knows nothing more. Where the history that the pass knew went on by the reads of the scenario's lines, the

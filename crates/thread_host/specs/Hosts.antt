@@ -1,8 +1,9 @@
 -- What runs a scenario on threads, before its threads begin, once they are done, and once all is settled.
 use Rattle.std.specs.Prelude.{◌≡◌, ℕ, suc, ◌+◌, ◌^◌, ◌<◌, ◌≤◌, false, List, [], ◌∷◌, ◌++◌, length, Some, IsSomeAnd, slice_get, slice_index_or, vec_len, vec_capacity}
 use Rattle.trace_base.specs.declared.limits.TheConstants.{MAX_BUFFERS}
-use Rattle.trace_model.specs.Calls.{Flushed}
-use Rattle.chunk_plain.specs.Views.{At, newcomer}
+use Rattle.trace_model.specs.Calls.{Call, Flushed}
+use Rattle.chunk_plain.specs.Letters.{last_flush}
+use Rattle.chunk_plain.specs.Views.{At, Heard, ServiceView, asked_in, newcomer}
 use Rattle.chunk_plain.specs.World.{World, writer}
 use Rattle.chunk_plain.specs.Plain.{first_world}
 use Rattle.chunk_schedules.specs.Schedules.{Leads}
@@ -16,8 +17,12 @@ use Rattle.scenario_text.specs.declared.scenario.NumberedLine.{NumberedLine}
 use Rattle.scenario_text.specs.Scenario.{Parts}
 use Rattle.scenario_text.specs.Accepted.{calls_asked, is_closed_by}
 use Rattle.service_core.specs.Agreement.{first_of}
+use Rattle.session_core.specs.declared.answers.SessionState.TheVariants.{Started}
+use Rattle.replay_model.specs.Flushes.{requests_in}
 use Rattle.replay_model.specs.Played.{IsSetupOf, buffers_of}
 use Rattle.replay_host.specs.Asking.{IsReadyFor}
+use Rattle.replay_host.specs.Lines.{MOST_REQUESTS}
+use Rattle.run_model.specs.Answered.{run_sums}
 use Rattle.run_model.specs.Collected.{CollectedByLines, IsTakenBy}
 use Rattle.run_model.specs.Scraped.{ScrapedByLines}
 use Rattle.run_model.specs.Settled.{HasDoneLines}
@@ -29,6 +34,7 @@ use Rattle.thread_writer.specs.declared.writer.TraceWriter.{TraceWriter}
 use Rattle.thread_writer.specs.Writing.{core_of, view_in, Writes}
 use Rattle.thread_host.specs.Keeping.{AllOpen}
 use Rattle.thread_host.specs.Ending.{AreDoneSeats, AreTakenOut}
+use Rattle.thread_host.specs.Tally.{IsTally}
 use Rattle.thread_host.specs.declared.host.Host.{Host}
 use Rattle.thread_host.specs.declared.settled.Settled.{Settled}
 
@@ -42,12 +48,12 @@ pub record IsReady (lines : List NumberedLine) (table : HostTable) (place : ℕ)
   pub going : is_stalled (core_of writer) ≡ false
   pub ready : IsReadyFor (payload_at (setup_in table) place) (view_in writer) (calls_asked (suc place) lines ++ Flushed ∷ [])
 
--- It has done its lines and flushed: it isn't stalled, no packet is begun, and no chunk is held.
-pub record HasPlayed (lines : List NumberedLine) (table : HostTable) (place : ℕ) (writer : TraceWriter) : Type 0 where
+-- It has done its lines and flushed, once for each of these: it isn't stalled, no packet is begun, and no chunk is held.
+pub record HasPlayed (lines : List NumberedLine) (endings : List Call) (table : HostTable) (place : ℕ) (writer : TraceWriter) : Type 0 where
   pub writes : Writes table writer
   pub place_is : (core_of writer).seat.place ≡ place
   pub going : is_stalled (core_of writer) ≡ false
-  pub done : HasDoneLines (setup_in table) lines place (view_in writer)
+  pub done : HasDoneLines (setup_in table) lines endings place (view_in writer)
   pub none_begun : in_packet (view_in writer) ≡ false
   pub none_held : holds_chunk (core_of writer) ≡ false
 
@@ -56,20 +62,25 @@ pub record AreReady (lines : List NumberedLine) (table : HostTable) (writers : L
   pub many : length writers ≡ length (setup_in table).writers
   pub each : (place : ℕ) (writer : TraceWriter) → slice_get writers place ≡ Some writer → IsReady lines table place writer
 
--- and which have done their lines
-pub record HavePlayed (lines : List NumberedLine) (table : HostTable) (writers : List TraceWriter) : Type 0 where
+-- and which have done their lines, with such flushes at the end
+pub record HavePlayed (lines : List NumberedLine) (endings : List Call) (table : HostTable) (writers : List TraceWriter) : Type 0 where
   pub many : length writers ≡ length (setup_in table).writers
-  pub each : (place : ℕ) (writer : TraceWriter) → slice_get writers place ≡ Some writer → HasPlayed lines table place writer
+  pub each : (place : ℕ) (writer : TraceWriter) → slice_get writers place ≡ Some writer → HasPlayed lines endings table place writer
+
+-- each of them has answered so many requests, by its last answer
+abbrev pub HaveAnswered : (requests : ℕ) → List TraceWriter → Type 0
+HaveAnswered requests writers =
+    (place : ℕ) (writer : TraceWriter) → slice_get writers place ≡ Some writer → requests ≤ last_flush (view_in writer).letters.answers
 
 -- the writers from a place on, of which nothing was asked
 pub record AreReadyFrom (lines : List NumberedLine) (table : HostTable) (from : ℕ) (writers : List TraceWriter) : Type 0 where
   pub room : from + length writers < 2 ^ 64
   pub each : (index : ℕ) (any : TraceWriter) → index < length writers → IsReady lines table (from + index) (slice_index_or writers index any)
 
--- and which have done their lines
+-- and which have done their jobs: their lines, and the flush behind them
 pub record HavePlayedFrom (lines : List NumberedLine) (table : HostTable) (from : ℕ) (old new : List TraceWriter) : Type 0 where
   pub many : length new ≡ length old
-  pub each : (index : ℕ) (any : TraceWriter) → index < length old → HasPlayed lines table (from + index) (slice_index_or new index any)
+  pub each : (index : ℕ) (any : TraceWriter) → index < length old → HasPlayed lines (Flushed ∷ []) table (from + index) (slice_index_or new index any)
 
 -- no line closes a producer
 abbrev pub ClosesNone : List NumberedLine → Type 0
@@ -77,19 +88,23 @@ ClosesNone lines = (producer : ℕ) → is_closed_by lines producer ≡ false
 
 -- ---- the service
 
--- The service is one of the table, with the scenario's buffers. No sequence is closed, and no image came by a commit. Finished
--- fragments of a chunk before it was complete were noted only where a line scrapes the writer's producer.
+-- The service is one of the table, with the scenario's buffers, and its session is started. No sequence is closed, and no image came by a commit.
+-- Finished fragments of a chunk before it was complete were noted only where a line scrapes the writer's producer. No more flush requests were
+-- made than lines ask for.
 pub record IsServed (scenario : Parts) (table : HostTable) (service : Service) : Type 0 where
   pub serves : Serves table service
   pub opened : AllOpen (setup_in table) service
   pub began : first_of (setup_in table) (serving.core_of service) ≡ buffers_of scenario (setup_in table)
   pub own : (serving.view_in service).commits ≡ []
   pub scraped : ScrapedByLines (setup_in table) scenario.lines (serving.view_in service)
+  pub started : (serving.core_of service).session.state ≡ Started
+  pub few : asked_in (serving.view_in service).letters ≤ requests_in scenario.lines
 
 -- ---- the host
 
 -- The host of a scenario: its table is laid out for it, its service is there and serves it, and it has the reading pass. Nothing was taken of a writer
--- whose producer nobody may have collected. There is room for the seats of its writers and for the counts of its report.
+-- whose producer nobody may have collected. There is room for the seats of its writers and for the counts of its report, and the sums of requests are
+-- those of the answers that the service has read.
 pub record IsHost (scenario : Parts) (host : Host) : Type 0 where
   pub laid : IsSetupOf scenario (setup_in host.table)
   pub specs : host.specs.items ≡ (setup_in host.table).writers
@@ -98,6 +113,9 @@ pub record IsHost (scenario : Parts) (host : Host) : Type 0 where
   pub collected : IsSomeAnd host.service (λ service. CollectedByLines (setup_in host.table) scenario.lines (serving.view_in service))
   pub pass : Passes host.table host.pass
   pub known : IsKnownWhole (known_by_pass host.pass)
+  pub tallied : IsSomeAnd host.tally (λ tally. IsSomeAnd host.service (λ service.
+      IsTally (requests_in scenario.lines) (length (setup_in host.table).writers) (serving.view_in service).letters tally))
+  pub few_requests : requests_in scenario.lines < MOST_REQUESTS
   pub no_seats : host.seats.items ≡ []
   pub room : length (setup_in host.table).writers ≤ vec_capacity host.seats
   pub few_buffers : length scenario.buffers ≤ MAX_BUFFERS
@@ -107,9 +125,15 @@ pub record IsHost (scenario : Parts) (host : Host) : Type 0 where
 
 -- ---- all settled
 
+-- Where there is a flush request, an answer to the last one was read of each writer of the table.
+abbrev pub HasReadAnswers : HostTable → ServiceView → Type 0
+HasReadAnswers table view = 0 < asked_in view.letters → (place : ℕ) → place < length (setup_in table).writers
+    → (n : ℕ) × (chunks : ℕ) × At view.letters n (Heard place (asked_in view.letters) chunks)
+
 -- The writers have done their lines, and there is a world in which they were done: a schedule of steps leads to it from a table as it is made,
 -- and it is among those that the service marked. All that they completed was taken: while the threads ran only where somebody may have the producer
 -- collected, and what was left then producer by producer in rising number. Their seats are there, in their order, and with each what its writer counted.
+-- Where all flush requests were made, their sums are those of the answers that the service has read.
 pub record IsSettled (scenario : Parts) (settled : Settled) : Type 0 where
   pub laid : IsSetupOf scenario (setup_in settled.table)
   pub producers : settled.producers ≡ length (setup_in settled.table).ranges
@@ -130,4 +154,5 @@ pub record IsSettled (scenario : Parts) (settled : Settled) : Type 0 where
   pub few_buffers : length scenario.buffers ≤ MAX_BUFFERS
   pub buffers : vec_len settled.counts.buffers ≡ length scenario.buffers
   pub sequences : vec_len settled.counts.sequences ≡ length scenario.writers
-  pub flushes : settled.counts.flushes.items ≡ []
+  pub flushes : asked_in (serving.view_in settled.service).letters ≡ requests_in scenario.lines
+      → settled.counts.flushes.items ≡ run_sums (length (setup_in settled.table).writers) (serving.view_in settled.service).letters

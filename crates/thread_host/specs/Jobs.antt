@@ -1,5 +1,5 @@
 -- What the service's job does of a scenario's lines.
-use Rattle.std.specs.Prelude.{◌≡◌, ℕ, List, ◌++◌}
+use Rattle.std.specs.Prelude.{◌≡◌, ℕ, ◌+◌, Bool, true, false, List, ◌++◌, if◌then◌else◌}
 use Rattle.std.specs.List.{flat_map, sum_by}
 use Rattle.byte_io.specs.Bytes.{Loan, Intake, told, untold, after_told, TakesPart}
 use Rattle.trace_model.specs.Buffers.{Buffer}
@@ -8,11 +8,12 @@ use Rattle.trace_model.specs.History as model
 use Rattle.trace_model.specs.History.{buffers_after, records_after}
 use Rattle.chunk_plain.specs.Histories.{history_of}
 use Rattle.chunk_plain.specs.Setup.{Setup}
-use Rattle.chunk_plain.specs.Views.{ServiceView}
+use Rattle.chunk_plain.specs.Views.{ServiceView, asked_in}
 use Rattle.scenario_text.specs.declared.scenario.LineKind.{LineKind}
-use Rattle.scenario_text.specs.declared.scenario.LineKind.TheVariants.{Collect, Scrape}
+use Rattle.scenario_text.specs.declared.scenario.LineKind.TheVariants.{Collect, Scrape, Read, Request}
 use Rattle.scenario_text.specs.declared.scenario.NumberedLine.{NumberedLine}
 use Rattle.service_core.specs.Reading.{noted_read}
+use Rattle.replay_model.specs.Flushes.{request_count, requests_in}
 use Rattle.run_model.specs.Reads.{reads_by, GoesByReads, GoesUpTo, ReadsUpTo}
 use Rattle.thread_service.specs.Reading.{GoesUnread}
 
@@ -25,6 +26,22 @@ takings_of _ = 0
 -- how often these lines do
 abbrev pub takings_in : List NumberedLine → ℕ
 takings_in lines = sum_by (λ (line : NumberedLine). takings_of line.what) lines
+
+-- whether the service plays the line itself
+abbrev pub is_service_line : LineKind → Bool
+is_service_line (Collect producer) = true
+is_service_line (Scrape producer) = true
+is_service_line (Read buffer limit) = true
+is_service_line Request = true
+is_service_line _ = false
+
+-- how often it reads its writers' answers for a line: once, before each of its own
+abbrev pub readings_of : LineKind → ℕ
+readings_of line = if is_service_line line then 1 else 0
+
+-- how often it does for these lines
+abbrev pub readings_in : List NumberedLine → ℕ
+readings_in lines = sum_by (λ (line : NumberedLine). readings_of line.what) lines
 
 -- the loans on which a sink hands its bytes on
 abbrev pub loans_of : Intake → List Loan
@@ -48,16 +65,19 @@ pub record TellsReads (first : List Buffer) (events : List model.Event) (old new
   pub reads : flat_map noted_read since ≡ flat_map noted_read events
   pub tells : TellsMore first old new before after
 
--- The reads of these lines were done with the pass, in their order, and nothing else was read; the sink took their records.
+-- The reads of these lines were done with the pass, in their order, and nothing else was read; the sink took their records. The pass knows of one flush
+-- request more for each of them that makes one.
 pub record TellsLines (setup : Setup) (first : List Buffer) (lines : List NumberedLine) (old new : ServiceView) (before after : Intake) : Type 0 where
   pub reads : GoesByReads setup first lines (history_of old) (history_of new)
+  pub requests : asked_in new.letters ≡ asked_in old.letters + requests_in lines
   pub tells : TellsMore first old new before after
 
--- The reads of one line were, and what the pass knows ends with them.
+-- The reads of one line were, and what the pass knows ends with them; and its flush request was made, where it makes one.
 pub record TellsLine (setup : Setup) (first : List Buffer) (line : LineKind) (old new : ServiceView) (before after : Intake) : Type 0 where
   pub here : List model.Event
   pub goes : GoesUnread (history_of old) here
   pub reads : history_of new ≡ here ++ reads_by setup (buffers_after first here) line
+  pub requests : asked_in new.letters ≡ asked_in old.letters + request_count line
   pub tells : TellsMore first old new before after
 
 -- ---- a write failed

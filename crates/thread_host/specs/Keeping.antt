@@ -8,6 +8,7 @@ use Rattle.chunk_words.specs.declared.host.HostTable.{HostTable}
 use Rattle.chunk_words.specs.Named.{identity_of}
 use Rattle.chunk_words.specs.Sits.{setup_in}
 use Rattle.service_core.specs.Agreement.{first_of, is_closed}
+use Rattle.session_core.specs.declared.answers.SessionState.TheVariants.{Started}
 use Rattle.thread_service.specs.declared.service.Service.{Service}
 use Rattle.thread_service.specs.OneProof.{serves_prop}
 use Rattle.thread_service.specs.Serving.{core_of, view_in, Serves}
@@ -33,6 +34,10 @@ AllOpen setup service = (place : ℕ) → place < length setup.writers → is_cl
 abbrev pub BeganWith : Setup → List Buffer → Service → Type 0
 BeganWith setup first service = first_of setup (core_of service) ≡ first
 
+-- its session is started
+abbrev pub IsStarted : Service → Type 0
+IsStarted service = (core_of service).session.state ≡ Started
+
 -- no image came by a commit
 abbrev pub HasOwn : Service → Type 0
 HasOwn service = (view_in service).commits ≡ []
@@ -48,6 +53,10 @@ serves_named_prop id setup service = Prim.hlevel serves_prop
 -- and of what its buffers were
 pub began_prop : (setup : Setup) (first : List Buffer) (service : Service) → IsProp (BeganWith setup first service)
 began_prop setup first service = Prim.hlevel (Coded-set, codes)
+
+-- and that its session is started
+pub started_prop : (service : Service) → IsProp (IsStarted service)
+started_prop service = Prim.hlevel (Coded-set, codes)
 
 -- and that all images are the table's own
 pub own_prop : (service : Service) → IsProp (HasOwn service)

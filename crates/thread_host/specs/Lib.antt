@@ -1,4 +1,5 @@
 pub mod Keeping
+pub mod Tally
 pub mod Growing
 pub mod Jobs
 pub mod Ending

@@ -4,7 +4,7 @@ ghost use Rattle.trace_model.specs.Calls as calls;
 ghost use Rattle.scenario_text.specs.Accepted.{node_call};
 ghost use Rattle.chunk_plain.specs.Words.{call_of};
 ghost use Rattle.replay_host.specs.Asking.{IsShortCall};
-ghost use Rattle.thread_host.specs.Playing.{MayBeAsked, WasAsked};
+ghost use Rattle.thread_host.specs.Playing.{HelpsLosses, MayBeAsked, WasAsked};
 
 use chunk_plain::WriterCall;
 use chunk_words::{HostTable, Shared};
@@ -26,6 +26,7 @@ pub(crate) fn ask<H: Helper, L: Ledger>(
     requires going { MayBeAsked H.helps H.of_table table.now (call_of call ∷ []) help.old writer.old }
     requires short { IsShortCall (call_of call) }
     ensures asked { WasAsked H.helps H.of_table table.now (call_of call.entry ∷ []) help.old writer.old help.new writer.new }
+    ensures helped { HelpsLosses H.helps help.old writer.old help.new writer.new }
 {
     let mut shared = Shared { table };
     match ask_one(&mut *writer.core, &mut shared, help, steps, call) {
@@ -44,6 +45,7 @@ pub(crate) fn ask_fields<H: Helper, L: Ledger>(
 )
     requires going { MayBeAsked H.helps H.of_table table.now (map node_call fields.now) help.old writer.old }
     ensures asked { WasAsked H.helps H.of_table table.now (map node_call fields.now) help.old writer.old help.new writer.new }
+    ensures helped { HelpsLosses H.helps help.old writer.old help.new writer.new }
 {
     let mut left = fields.fields();
     'nodes: while let Some((node, text)) = left.next() {
@@ -64,6 +66,7 @@ pub(crate) fn ask_packet<H: Helper, L: Ledger>(
         help.old writer.old }
     ensures asked { WasAsked H.helps H.of_table table.now (calls.Begun true ∷ map node_call fields.now ++ calls.Finished ∷ [])
         help.old writer.old help.new writer.new }
+    ensures helped { HelpsLosses H.helps help.old writer.old help.new writer.new }
 {
     ask(table, help, steps, writer, WriterCall::Begun { kept: true });
     ask_fields(table, help, steps, writer, fields);

@@ -31,8 +31,8 @@ use trace_buffer::BufferCounts;
 
 impl Settled {
     /// Closes the producers in rising number, reads each buffer without limit, in rising number, and
-    /// counts what became of packets and chunks. What it tells is the account of the seats and the
-    /// service that were settled, also where a write failed.
+    /// counts what became of packets and chunks, beside what stands for flush requests. What it tells is
+    /// the account of the seats and the service that were settled, also where a write failed.
     pub fn finish<T: Sink>(self, out: &mut T) -> Result<Done, WriteFault>
         requires settled { (scenario : Parts) × IsSettled scenario self }
         requires may { T.may_write out.old }

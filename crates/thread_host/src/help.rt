@@ -1,4 +1,5 @@
-//! The helper of a writer that stalls, for ever or so often: it takes the service's lock and has the writer's producer collected.
+//! The helpers of writers that stall, for ever or so often: one takes the service's lock and has the writer's producer collected. That of
+//! a writer which begins no packet is never asked.
 ghost use Rattle.std.specs.Prelude.{◌≡◌, true};
 ghost use Rattle.run_model.specs.Collected.{may_be_collected};
 ghost use Rattle.thread_host.specs.Keeping.{IsNamed, named_prop};
@@ -47,6 +48,21 @@ impl<'a, N: HostName, R: Wait, L: Ledger> LockHelp<'a, N, R, L> {
             takings,
         }
     }
+
+    /// How often it has had chunks taken, with what was counted before it.
+    pub fn into_takings(self) -> Takings<L>
+        ensures { result ≡ self.entry.takings }
+    {
+        let LockHelp {
+            rt: _,
+            table: _,
+            service: _,
+            producer: _,
+            left: _,
+            takings,
+        } = self;
+        takings
+    }
 }
 
 impl<'a, N: HostName, R: Wait, L: Ledger> Helper for LockHelp<'a, N, R, L> {
@@ -79,5 +95,33 @@ impl<'a, N: HostName, R: Wait, L: Ledger> Helper for LockHelp<'a, N, R, L> {
             .lock(self.rt)
             .collect(self.table, self.producer, &mut self.takings);
         true
+    }
+}
+
+/// The helper of a writer that begins no packet, and so needs no chunk. It takes no lock: if it were asked,
+/// it would wait for ever.
+#[derive(Drop)]
+pub struct IdleHelp<'a, R: Wait> {
+    pub rt: &'a R,
+}
+
+impl<'a, R: Wait> Helper for IdleHelp<'a, R> {
+    ghost use Rattle.trace_model.specs.Counts.{last_count};
+
+    ghost turns = { λ _. 0 };
+
+    ghost of_table = { λ _ _. Unit {0} };
+
+    // It never answers.
+    ghost helps = { λ _ _ _ _. ⊥ };
+
+    // it counts nothing, so its count stands at its last value
+    ghost asked = { λ _. last_count };
+
+    ghost asked_more = { λ _ _ _ _ helped. absurd helped };
+
+    fn help(&mut self, _table: &HostTable, _producer: u16) -> bool {
+        for _ in self.rt.forever() {}
+        unreachable!()
     }
 }

@@ -1,22 +1,27 @@
 //! What runs a scenario on threads.
-ghost use Rattle.std.specs.Prelude.{◌≡◌, [], IfSome, IsSomeAnd, IfOk, OnErr, OnOk};
+ghost use Rattle.std.specs.Prelude.{◌≡◌, [], ◌∷◌, IfSome, IsSomeAnd, IfOk, OnErr, OnOk};
 ghost use Rattle.byte_io.specs.Bytes.{CountsFaults};
+ghost use Rattle.trace_model.specs.Calls.{Flushed};
 ghost use Rattle.chunk_plain.specs.Plain.{first_world};
+ghost use Rattle.chunk_plain.specs.Views.{asked_in};
 ghost use Rattle.chunk_words.specs.Sits.{setup_in, known_by_pass};
 ghost use Rattle.scenario_text.specs.Scenario.{IsScenario, parts_of};
 ghost use Rattle.replay_model.specs.Played.{buffers_of};
+ghost use Rattle.run_model.specs.Settled.{last_flushes};
 ghost use Rattle.thread_service.specs.Serving.{view_in};
 ghost use Rattle.thread_host.specs.Growing.{Grows};
-ghost use Rattle.thread_host.specs.Hosts.{IsHost, AreReady, HavePlayed, ClosesNone};
+ghost use Rattle.thread_host.specs.Hosts.{IsHost, AreReady, HaveAnswered, HavePlayed, ClosesNone};
 ghost use Rattle.thread_host.specs.Jobs.{KeepsLoans, FailsLines, TellsLines};
 
+use crate::answering::answer_all;
 use crate::making::fill_writers;
 use crate::running::run_named;
+use crate::tally::Tally;
 use byte_io::put::WriteFault;
 use byte_io::traits::{Gate, Sink};
 use chunk_words::{HostTable, ReadPass, WriterSeat};
 use loss_report::Done;
-use replay_host::{buffer_specs, make_done, producer_specs};
+use replay_host::{buffer_specs, count_requests, make_done, producer_specs};
 use scenario_text::Scenario;
 use std::alloc::{AllocError, Global};
 use std::marker::Brand;
@@ -28,11 +33,12 @@ use thread_writer::TraceWriter;
 use trace_base::policy::WriterSpec;
 
 /// A table of chunks that threads share, its service with the reading pass, and room for what comes
-/// behind a run. The service is away only while a run goes on.
+/// behind a run. The service and the tally of its writers' answers are away only while a run goes on.
 pub struct Host {
     pub(crate) alloc: Global,
     pub(crate) table: HostTable,
     pub(crate) service: Option<Service>,
+    pub(crate) tally: Option<Tally>,
     pub(crate) pass: ReadPass,
     pub(crate) specs: Vec<WriterSpec>,
     /// How many producers there are.
@@ -53,6 +59,7 @@ impl Host {
             view_in service ≡ (first_world (setup_in made.0.table)).service)) }
         ensures writers { IfOk result (λ made. AreReady scenario.now.lines made.0.table made.1.items) }
         ensures unread { IfOk result (λ made. (known_by_pass made.0.pass).events ≡ []) }
+        ensures unasked { IfOk result (λ made. asked_in (known_by_pass made.0.pass).letters ≡ 0) }
     {
         let producers = producer_specs(alloc, &scenario.producers)?;
         let buffers = buffer_specs(alloc, &scenario.buffers)?;
@@ -60,6 +67,11 @@ impl Host {
         let pass = table.pass(&mut seat);
         let service = Service::make(alloc, &buffers, &producers, &scenario.writers, seat)?;
         let counts = make_done(alloc, scenario.buffers.len(), scenario.writers.len())?;
+        let tally = Tally::make(
+            alloc,
+            count_requests(&scenario.lines),
+            scenario.writers.len(),
+        )?;
         let specs = scenario.writers.as_slice().to_vec(alloc)?;
         let seats = Vec::with_capacity(alloc, specs.len())?;
         // A writer has to be ended, so it is made once nothing can fail any more.
@@ -69,6 +81,7 @@ impl Host {
             alloc,
             table,
             service: Some(service),
+            tally: Some(tally),
             pass,
             specs,
             producers: scenario.producers.len() as u16,
@@ -80,9 +93,10 @@ impl Host {
 
     /// Runs the scenario: each writer plays its lines on a thread of its own, beside the service's own
     /// lines. The sink takes the records of the reads. After a write fault the service plays no more. What
-    /// the service knows grows by what is collected, scraped and read, and by nothing else. A line scrapes each
-    /// producer that is scraped; and one collects or scrapes each that is collected, or a writer of the
-    /// producer asks for help.
+    /// the service knows grows by what is collected, scraped and read, by flush requests and the answers to
+    /// them, and by nothing else. A line scrapes each producer that is scraped; and one collects or scrapes
+    /// each that is collected, or a writer of the producer asks for help. Once all jobs are done each writer
+    /// has answered the last flush request.
     pub fn run<R: Threads + Wait + Sync, T: Sink + Send, G: Gate + Sync>(
         &mut self,
         rt: &R,
@@ -93,12 +107,45 @@ impl Host {
     ) -> Result<(), WriteFault>
         requires host { IsHost (parts_of scenario.now) self.old }
         requires writers { AreReady scenario.now.lines self.old.table writers.old.items }
+        requires unasked { asked_in (known_by_pass self.old.pass).letters ≡ 0 }
         requires may { T.may_write out.old }
         ensures host { IsHost (parts_of scenario.now) self.new }
         ensures table { self.new.table ≡ self.old.table }
         ensures grows { IfSome self.old.service (λ before. IfSome self.new.service (λ after.
             Grows (setup_in self.old.table) scenario.now.lines (view_in before) (view_in after))) }
-        ensures played { HavePlayed scenario.now.lines self.new.table writers.new.items }
+        ensures played { HavePlayed scenario.now.lines last_flushes self.new.table writers.new.items }
+        ensures answered { HaveAnswered (asked_in (known_by_pass self.new.pass).letters) writers.new.items }
+        ensures told { OnOk result (TellsLines (setup_in self.old.table) (buffers_of (parts_of scenario.now) (setup_in self.old.table))
+            scenario.now.lines (known_by_pass self.old.pass) (known_by_pass self.new.pass) (T.taken out.old) (T.taken out.new)) }
+        ensures fails { OnErr result (FailsLines (setup_in self.old.table) (buffers_of (parts_of scenario.now) (setup_in self.old.table))
+            scenario.now.lines (known_by_pass self.old.pass) (known_by_pass self.new.pass) (T.taken out.old) (T.taken out.new)) }
+        ensures stands { KeepsLoans (T.taken out.old) (T.taken out.new) }
+        ensures count { CountsFaults (T.faults out.old) (T.faults out.new) result }
+        ensures goes_on { OnOk result (T.may_write out.new) }
+    {
+        let told = self.run_jobs(rt, scenario, writers, out, gate);
+        answer_all(&self.table, &mut self.pass, writers.as_mut_slice());
+        told
+    }
+
+    /// The jobs of a run: the service's, and one for each writer.
+    fn run_jobs<R: Threads + Wait + Sync, T: Sink + Send, G: Gate + Sync>(
+        &mut self,
+        rt: &R,
+        scenario: &Scenario,
+        writers: &mut Vec<TraceWriter>,
+        out: &mut T,
+        gate: &G,
+    ) -> Result<(), WriteFault>
+        requires host { IsHost (parts_of scenario.now) self.old }
+        requires writers { AreReady scenario.now.lines self.old.table writers.old.items }
+        requires unasked { asked_in (known_by_pass self.old.pass).letters ≡ 0 }
+        requires may { T.may_write out.old }
+        ensures host { IsHost (parts_of scenario.now) self.new }
+        ensures table { self.new.table ≡ self.old.table }
+        ensures grows { IfSome self.old.service (λ before. IfSome self.new.service (λ after.
+            Grows (setup_in self.old.table) scenario.now.lines (view_in before) (view_in after))) }
+        ensures played { HavePlayed scenario.now.lines (Flushed ∷ []) self.new.table writers.new.items }
         ensures told { OnOk result (TellsLines (setup_in self.old.table) (buffers_of (parts_of scenario.now) (setup_in self.old.table))
             scenario.now.lines (known_by_pass self.old.pass) (known_by_pass self.new.pass) (T.taken out.old) (T.taken out.new)) }
         ensures fails { OnErr result (FailsLines (setup_in self.old.table) (buffers_of (parts_of scenario.now) (setup_in self.old.table))
@@ -110,13 +157,17 @@ impl Host {
         let Some(service) = self.service.take() else {
             unreachable!()
         };
+        let Some(tally) = self.tally.take() else {
+            unreachable!()
+        };
         let many = u16::try_from(self.specs.len()).unwrap_or(u16::MAX);
         let own = scenario.lines.by_writers(self.alloc, many);
-        let (service, told) = run_named::<Brand, R, G, T, Brand>(
+        let (service, tally, told) = run_named::<Brand, R, G, T, Brand, Brand>(
             rt,
             gate,
             &self.table,
             service,
+            tally,
             &self.specs,
             &scenario.lines,
             &own,
@@ -124,8 +175,10 @@ impl Host {
             out,
             writers.as_mut_slice(),
             Blank::new(1),
+            Blank::new(1),
         );
         self.service = Some(service);
+        self.tally = Some(tally);
         told
     }
 }

@@ -1,15 +1,19 @@
 //! The service's own job of a run.
-ghost use Rattle.std.specs.Prelude.{◌≡◌, ℕ, ◌+◌, ◌≤◌, true, IfOk, OnErr, OnOk};
+ghost use Rattle.std.specs.Prelude.{◌≡◌, ℕ, ◌+◌, ◌<◌, ◌≤◌, true, IfOk, OnErr, OnOk};
 ghost use Rattle.byte_io.specs.Bytes.{CountsFaults};
+ghost use Rattle.chunk_plain.specs.Views.{asked_in};
 ghost use Rattle.chunk_words.specs.Sits.{Passes, known_by_pass};
+ghost use Rattle.replay_host.specs.Lines.{MOST_REQUESTS};
+ghost use Rattle.replay_model.specs.Flushes.{requests_in};
 ghost use Rattle.scenario_text.specs.declared.scenario.LineKind.TheVariants as line_kinds;
 ghost use Rattle.run_model.specs.Collected.{may_be_collected};
 ghost use Rattle.run_model.specs.Scraped.{is_scraped_by};
 ghost use Rattle.thread_service.specs.Reading.{IsKnownWhole};
 ghost use Rattle.thread_host.specs.Keeping.{IsNamed};
-ghost use Rattle.thread_host.specs.Jobs.{KeepsLoans, FailsLine, FailsLines, TellsLine, TellsLines, takings_of, takings_in};
+ghost use Rattle.thread_host.specs.Jobs as jobs;
+ghost use Rattle.thread_host.specs.Jobs.{KeepsLoans, FailsLine, FailsLines, TellsLine, TellsLines, readings_of, readings_in, takings_of, takings_in};
 
-use crate::locked::{Locked, Takings};
+use crate::locked::{Locked, Readings, Takings};
 use crate::name::HostName;
 use byte_io::put::WriteFault;
 use byte_io::traits::{Gate, Sink};
@@ -18,10 +22,11 @@ use scenario_text::{LineKind, LineList};
 use std::sync::ledger::Ledger;
 use std::sync::{Mutex, Wait};
 
-/// Plays the service's lines, in their order: it collects, scrapes and reads, each with the lock
-/// taken once, and passes the gate before each and once behind the last. Of a line that asks for a flush
-/// it passes the gate alone. A write that fails ends it. It has chunks taken as often as lines ask for it.
-pub fn service_job<N: HostName, R: Wait, G: Gate, O: Sink, L: Ledger>(
+/// Plays the service's lines, in their order: it collects, scrapes, reads and makes flush requests, each
+/// with the lock taken once. Before each it passes the gate and then reads its writers' answers; and it
+/// passes the gate once behind the last. A write that fails ends it. It has chunks taken as often as lines
+/// ask for it.
+pub fn service_job<N: HostName, R: Wait, G: Gate, O: Sink, L: Ledger, K: Ledger>(
     rt: &R,
     gate: &G,
     table: &HostTable,
@@ -30,9 +35,12 @@ pub fn service_job<N: HostName, R: Wait, G: Gate, O: Sink, L: Ledger>(
     pass: &mut ReadPass,
     out: &mut O,
     takings: &mut Takings<L>,
+    readings: &mut Readings<K>,
 ) -> Result<(), WriteFault>
     requires table { IsNamed N.table N.setup table.now }
     requires lines { lines.now ≡ N.lines }
+    requires none_asked { asked_in (known_by_pass pass.old).letters ≡ 0 }
+    requires few { requests_in N.lines < MOST_REQUESTS }
     requires pass { Passes table.now pass.old }
     requires known { IsKnownWhole (known_by_pass pass.old) }
     requires may { O.may_write out.old }
@@ -47,33 +55,56 @@ pub fn service_job<N: HostName, R: Wait, G: Gate, O: Sink, L: Ledger>(
     ensures goes_on { OnOk result (O.may_write out.new) }
     ensures asks { IfOk result (λ _. takings.new ≡ takings.old + takings_in lines.now) }
     ensures most { takings.new ≤ takings.old + takings_in lines.now }
+    ensures reads { IfOk result (λ _. readings.new ≡ readings.old + readings_in lines.now) }
 {
     // There are never so many lines that the number stands still.
     let mut number: u64 = 1;
     let mut walk = lines.walk();
     'lines: while let Some(line) = walk.next() {
-        if is_service_line(&line.what) {
-            gate.pass(0, number);
-            number = number.saturating_add(1);
-        }
+        number = begin_line(rt, gate, table, service, &line.what, number, readings);
         play_line(rt, table, service, &line.what, pass, out, takings)?;
     }
     gate.pass(0, number);
     Ok(())
 }
 
-/// Whether the line is the service's own. It decides when the gate is passed and nothing else.
-fn is_service_line(line: &LineKind<'_>) -> bool {
-    matches!(
-        line,
-        LineKind::Collect { producer: _ }
-            | LineKind::Scrape { producer: _ }
-            | LineKind::Read {
-                buffer: _,
-                limit: _
-            }
-            | LineKind::Request
-    )
+/// Before a line of the service's own it passes the gate, and then reads its writers' answers. Answers the
+/// number under which the gate is to be passed next.
+fn begin_line<N: HostName, R: Wait, G: Gate, K: Ledger>(
+    rt: &R,
+    gate: &G,
+    table: &HostTable,
+    service: &Mutex<Locked<N>>,
+    line: &LineKind<'_>,
+    number: u64,
+    readings: &mut Readings<K>,
+) -> u64
+    requires table { IsNamed N.table N.setup table.now }
+    ensures reads { readings.new ≡ readings.old + readings_of line.now }
+{
+    if is_service_line(line) {
+        gate.pass(0, number);
+        service.lock(rt).read_answers(table, readings);
+        number.saturating_add(1)
+    } else {
+        number
+    }
+}
+
+/// Whether the line is the service's own.
+fn is_service_line(line: &LineKind<'_>) -> bool
+    ensures { result ≡ jobs.is_service_line line.now }
+{
+    match line {
+        LineKind::Collect { producer: _ } => true,
+        LineKind::Scrape { producer: _ } => true,
+        LineKind::Read {
+            buffer: _,
+            limit: _,
+        } => true,
+        LineKind::Request => true,
+        _ => false,
+    }
 }
 
 /// Plays a line, where it is one of the service's.
@@ -89,6 +120,8 @@ fn play_line<N: HostName, R: Wait, O: Sink, L: Ledger>(
     requires table { IsNamed N.table N.setup table.now }
     requires collected { (producer : ℕ) → line.now ≡ line_kinds.Collect producer → may_be_collected N.setup N.lines producer ≡ true }
     requires scraped { (producer : ℕ) → line.now ≡ line_kinds.Scrape producer → is_scraped_by N.lines producer ≡ true }
+    requires room { line.now ≡ line_kinds.Request → asked_in (known_by_pass pass.old).letters < requests_in N.lines }
+    requires few { requests_in N.lines < MOST_REQUESTS }
     requires pass { Passes table.now pass.old }
     requires known { IsKnownWhole (known_by_pass pass.old) }
     requires may { O.may_write out.old }
@@ -120,6 +153,10 @@ fn play_line<N: HostName, R: Wait, O: Sink, L: Ledger>(
                 Ok(_) => Ok(()),
                 Err(fault) => Err(fault),
             }
+        }
+        LineKind::Request => {
+            service.lock(rt).request_passing(table, pass);
+            Ok(())
         }
         _ => Ok(()),
     }

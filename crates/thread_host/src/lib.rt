@@ -8,6 +8,7 @@
 //! lines were played, and at the end it is of these seats and of the service that was settled.
 #![tactic(auto)]
 
+mod answering;
 mod asking;
 mod finishing;
 mod help;
@@ -17,16 +18,19 @@ mod locked;
 mod making;
 mod name;
 mod playing;
+mod reading;
 mod running;
 mod settled;
+mod tally;
 mod whole;
 mod writing;
 
-pub use help::LockHelp;
+pub use help::{IdleHelp, LockHelp};
 pub use host::Host;
 pub use job::service_job;
-pub use locked::{Locked, Takings};
+pub use locked::{Locked, Readings, Takings};
 pub use name::HostName;
 pub use settled::Settled;
+pub use tally::Tally;
 pub use whole::run;
 pub use writing::writer_job;

@@ -1,11 +1,14 @@
-//! The service behind a lock, and how often it was asked there to take chunks.
-ghost use Rattle.std.specs.Prelude.{◌≡◌, ◌+◌, ◌<◌, true, List, IfOk, OnErr, OnOk};
-ghost use Rattle.byte_io.specs.Bytes.{CountsFaults};
+//! The service behind a lock, and how often it was asked there to take chunks and to read answers.
+ghost use Rattle.std.specs.Prelude.{◌≡◌, ◌+◌, ◌<◌, ◌≤◌, true, List, length, IfOk, OnErr, OnOk};
+ghost use Rattle.byte_io.specs.Bytes.{CountsFaults, Intake};
 ghost use Rattle.trace_model.specs.History as model;
+ghost use Rattle.chunk_plain.specs.Views.{asked_in};
 ghost use Rattle.chunk_words.specs.Knows.{Away, with_stage};
 ghost use Rattle.chunk_words.specs.Sits.{Passes, known_by_pass};
 ghost use Rattle.scenario_text.specs.declared.scenario.LineKind.TheVariants as line;
-ghost use Rattle.service_core.specs.Agreement.{KeepsRest};
+ghost use Rattle.replay_host.specs.Lines.{MOST_REQUESTS};
+ghost use Rattle.replay_model.specs.Flushes.{requests_in};
+ghost use Rattle.service_core.specs.Agreement.{KeepsRest, KeepsTaking};
 ghost use Rattle.service_core.specs.Reading.{NotesReads, ReadsAll, FailsAmong};
 ghost use Rattle.service_core.specs.Scraping.{TakesAndScrapes};
 ghost use Rattle.service_core.specs.Taking.{Takes, places_of};
@@ -13,12 +16,15 @@ ghost use Rattle.run_model.specs.Collected.{may_be_collected};
 ghost use Rattle.run_model.specs.Scraped.{is_scraped_by};
 ghost use Rattle.thread_service.specs.Reading.{IsKnownWhole, PassReads};
 ghost use Rattle.thread_service.specs.Serving.{core_of, view_in, desk_in};
-ghost use Rattle.thread_host.specs.Growing.{Grows};
+ghost use Rattle.thread_host.specs.Growing.{Grows, IsHearing, IsRequesting};
 ghost use Rattle.thread_host.specs.Jobs.{FailsLine, TellsLine};
-ghost use Rattle.thread_host.specs.Keeping.{IsNamed, ServesNamed, AllOpen, BeganWith, HasOwn};
-ghost use Rattle.thread_host.specs.Keeping.{serves_named_prop, began_prop, own_prop};
+ghost use Rattle.thread_host.specs.Keeping.{IsNamed, ServesNamed, AllOpen, BeganWith, IsStarted, HasOwn};
+ghost use Rattle.thread_host.specs.Keeping.{serves_named_prop, began_prop, started_prop, own_prop};
+ghost use Rattle.thread_host.specs.Tally.{IsTally, KeepsSession, tally_prop};
 
 use crate::name::HostName;
+use crate::reading::read_answers;
+use crate::tally::Tally;
 use byte_io::put::WriteFault;
 use byte_io::traits::Sink;
 use chunk_words::{HostTable, ReadPass};
@@ -63,46 +69,98 @@ impl<L: Ledger> Takings<L> {
     }
 }
 
+/// How often the service read its writers' answers. Contracts see a number; it takes no bytes when the
+/// program runs. Nothing raises it but the call of `Locked` that reads them.
+#[derive(Drop)]
+pub struct Readings<L: Ledger> {
+    steps: Steps<L>,
+}
+
+impl<L: Ledger> Model for Readings<L> {
+    ghost use Rattle.std.specs.Prelude.{ℕ};
+
+    ghost Value = { ℕ };
+
+    ghost view = { λ readings. readings.steps };
+}
+
+impl<L: Ledger> Readings<L> {
+    /// None yet, on a ledger of its own.
+    pub fn new(blank: Blank) -> Self
+        requires name { blank.name ≡ L.name }
+        requires parts { blank.parts ≡ L.parts }
+        requires some_part { 0 < L.parts }
+        ensures { result ≡ 0 }
+    {
+        let steps = Steps::new(blank);
+        Readings { steps }
+    }
+
+    /// One more.
+    fn count(&mut self)
+        ensures { self.new ≡ self.old + 1 }
+    {
+        self.steps.tick();
+    }
+}
+
 /// The service of the table that its type names, none of whose sequences is closed. No image came by a
 /// commit. What it knows is what the type says that it knew, and what was collected, scraped and read
-/// since. Of the lines that the type names, one scrapes each producer that was scraped; and one collects or
-/// scrapes each that was collected, or a writer of the producer asks for help.
+/// since, with the flush requests that were made and the answers that were read. Of the lines that the type
+/// names, one scrapes each producer that was scraped; and one collects or scrapes each that was collected,
+/// or a writer of the producer asks for help. The tally is of the answers that the service has read, and
+/// has room for as many requests as these lines make.
 #[derive(Drop)]
 pub struct Locked<N: HostName> {
     pub(crate) service: Service,
+    tally: Tally,
     of: PhantomData<N>,
     ghost serves: { ServesNamed N.table N.setup service } by { serves_named_prop N.table N.setup service },
     ghost open: { AllOpen N.setup service },
     ghost began: { BeganWith N.setup N.first service } by { began_prop N.setup N.first service },
     ghost own: { HasOwn service } by { own_prop service },
     ghost grows: { Grows N.setup N.lines N.start (view_in service) },
+    ghost started: { IsStarted service } by { started_prop service },
+    ghost few: { asked_in (view_in service).letters ≤ requests_in N.lines },
+    ghost tallied: { IsTally (requests_in N.lines) (length N.setup.writers) (view_in service).letters tally } by { tally_prop (requests_in N.lines) (length N.setup.writers) (view_in service).letters tally },
 }
 
 impl<N: HostName> Locked<N> {
-    pub fn new(service: Service) -> Locked<N>
+    pub fn new(service: Service, tally: Tally) -> Locked<N>
         requires serves { ServesNamed N.table N.setup service }
         requires open { AllOpen N.setup service }
         requires began { BeganWith N.setup N.first service }
         requires own { HasOwn service }
         requires grows { Grows N.setup N.lines N.start (view_in service) }
+        requires started { IsStarted service }
+        requires few { asked_in (view_in service).letters ≤ requests_in N.lines }
+        requires tallied { IsTally (requests_in N.lines) (length N.setup.writers) (view_in service).letters tally }
         ensures service { result.service ≡ service }
     {
         Locked {
             service,
+            tally,
             of: PhantomData,
         }
     }
 
-    pub fn into_service(self) -> Service
-        ensures service { result ≡ self.service }
-        ensures serves { ServesNamed N.table N.setup result }
-        ensures open { AllOpen N.setup result }
-        ensures began { BeganWith N.setup N.first result }
-        ensures own { HasOwn result }
-        ensures grows { Grows N.setup N.lines N.start (view_in result) }
+    pub fn into_parts(self) -> (Service, Tally)
+        ensures service { result.0 ≡ self.service }
+        ensures serves { ServesNamed N.table N.setup result.0 }
+        ensures open { AllOpen N.setup result.0 }
+        ensures began { BeganWith N.setup N.first result.0 }
+        ensures own { HasOwn result.0 }
+        ensures grows { Grows N.setup N.lines N.start (view_in result.0) }
+        ensures started { IsStarted result.0 }
+        ensures few { asked_in (view_in result.0).letters ≤ requests_in N.lines }
+        ensures tallied { IsTally (requests_in N.lines) (length N.setup.writers) (view_in result.0).letters result.1 }
     {
-        let Locked { service, of: _ } = self;
-        service
+        let Locked {
+            service,
+            tally,
+            of: _,
+        } = self;
+        (service, tally)
     }
 
     /// Takes the complete chunks of the producer's writers. Answers how many. A line, or a writer of the
@@ -142,6 +200,42 @@ impl<N: HostName> Locked<N> {
     {
         takings.count();
         self.service.scrape(table, producer)
+    }
+
+    /// Reads the last answer of each writer to flush requests. Those that are newer than what was read
+    /// before go to the session, and into the sums of their requests.
+    pub fn read_answers<L: Ledger>(&mut self, table: &HostTable, readings: &mut Readings<L>)
+        requires table { IsNamed N.table N.setup table.now }
+        ensures hears { IsHearing (view_in self.old.service) (view_in self.new.service) }
+        ensures desk { desk_in self.new.service ≡ desk_in self.old.service }
+        ensures keeps { KeepsTaking (record (core_of self.old.service) { seat = (core_of self.new.service).seat })
+            (core_of self.new.service) }
+        ensures session { KeepsSession (core_of self.old.service).session (core_of self.new.service).session }
+        ensures counts { readings.new ≡ readings.old + 1 }
+    {
+        readings.count();
+        read_answers(&mut self.service, table, &mut self.tally);
+    }
+
+    /// Makes a flush request with the reading pass, which knows of it then. It is one of those for which
+    /// there is room: a line asks for each.
+    pub fn request_passing(&mut self, table: &HostTable, pass: &mut ReadPass)
+        requires table { IsNamed N.table N.setup table.now }
+        requires pass { Passes table.now pass.old }
+        requires known { IsKnownWhole (known_by_pass pass.old) }
+        requires room { asked_in (known_by_pass pass.old).letters < requests_in N.lines }
+        requires few { requests_in N.lines < MOST_REQUESTS }
+        ensures pass { Passes table.now pass.new }
+        ensures known { IsKnownWhole (known_by_pass pass.new) }
+        ensures requests { IsRequesting (view_in self.old.service) (view_in self.new.service) }
+        ensures knows { known_by_pass pass.new ≡ view_in self.new.service }
+        ensures told { (taken : Intake) → TellsLine N.setup N.first line.Request (known_by_pass pass.old) (known_by_pass pass.new) taken taken }
+        ensures desk { with_stage (desk_in self.new.service) Away ≡ with_stage (desk_in self.old.service) Away }
+    {
+        match self.service.request_passing(table, pass) {
+            Ok(_) => {}
+            Err(_) => unreachable!(),
+        }
     }
 
     /// Reads a buffer with the reading pass.

@@ -1,22 +1,29 @@
 //! The jobs of a run, beside each other.
-ghost use Rattle.std.specs.Prelude.{◌≡◌, ℕ, ◌<◌, length, IfOk, OnErr, OnOk};
+ghost use Rattle.std.specs.Prelude.{◌≡◌, ℕ, ◌<◌, ◌≤◌, [], ◌∷◌, length, IfOk, OnErr, OnOk};
 ghost use Rattle.byte_io.specs.Bytes.{CountsFaults};
+ghost use Rattle.trace_model.specs.Calls.{Flushed};
+ghost use Rattle.chunk_plain.specs.Views.{asked_in};
 ghost use Rattle.chunk_words.specs.Sits.{Passes, known_by_pass};
+ghost use Rattle.replay_host.specs.Lines.{MOST_REQUESTS};
+ghost use Rattle.replay_model.specs.Flushes.{requests_in};
 ghost use Rattle.thread_service.specs.Reading.{IsKnownWhole};
 ghost use Rattle.thread_service.specs.Serving.{view_in};
 ghost use Rattle.thread_host.specs.Growing.{Grows};
-ghost use Rattle.thread_host.specs.Hosts.{AreReadyFrom, HavePlayedFrom};
+ghost use Rattle.thread_host.specs.Hosts.{AreReadyFrom, HasPlayed, HavePlayedFrom, IsReady};
 ghost use Rattle.thread_host.specs.Jobs.{KeepsLoans, FailsLines, TellsLines};
-ghost use Rattle.thread_host.specs.Keeping.{IsNamed, ServesNamed, AllOpen, BeganWith, HasOwn};
+ghost use Rattle.thread_host.specs.Keeping.{IsNamed, ServesNamed, AllOpen, BeganWith, IsStarted, HasOwn};
+ghost use Rattle.thread_host.specs.Tally.{IsTally};
 
 use crate::job::service_job;
-use crate::locked::{Locked, Takings};
+use crate::locked::{Locked, Readings, Takings};
 use crate::name::HostName;
+use crate::tally::Tally;
 use crate::writing::writer_job;
 use byte_io::put::WriteFault;
 use byte_io::traits::{Gate, Sink};
 use chunk_words::{HostTable, ReadPass};
 use scenario_text::{LineList, LinesByWriter};
+use std::marker::Brand;
 use std::sync::ledger::{Blank, Ledger};
 use std::sync::{Mutex, Wait};
 use std::thread::{Threads, join_mut};
@@ -44,12 +51,13 @@ fn writers_from<N: HostName + Send + Sync, R: Threads + Wait + Sync, G: Gate + S
 )
     requires table { IsNamed N.table N.setup table.now }
     requires specs { specs.now ≡ N.setup.writers }
+    requires lines { lines.now ≡ N.lines }
     requires ready { AreReadyFrom lines.now table.now from writers.old }
     ensures played { HavePlayedFrom lines.now table.now from writers.old writers.new }
 {
     match writers.len() {
         0 => {}
-        1 => writer_job(
+        1 => counted_job(
             rt,
             gate,
             table,
@@ -95,6 +103,7 @@ fn start_both<N: HostName + Send + Sync, R: Threads + Wait + Sync, G: Gate + Syn
 )
     requires table { IsNamed N.table N.setup table.now }
     requires specs { specs.now ≡ N.setup.writers }
+    requires lines { lines.now ≡ N.lines }
     requires some { (0 < length first.old) × (0 < length rest.old) }
     requires first { AreReadyFrom lines.now table.now from first.old }
     requires rest { AreReadyFrom lines.now table.now behind rest.old }
@@ -102,29 +111,89 @@ fn start_both<N: HostName + Send + Sync, R: Threads + Wait + Sync, G: Gate + Syn
     ensures rest { HavePlayedFrom lines.now table.now behind rest.old rest.new }
 {
     let mut play_first = ||
-        requires { IsNamed N.table N.setup table.now × (specs.now ≡ N.setup.writers) × AreReadyFrom lines.now table.now from first.now }
+        requires { IsNamed N.table N.setup table.now × (specs.now ≡ N.setup.writers) × (lines.now ≡ N.lines) × AreReadyFrom lines.now table.now from first.now }
         ensures { HavePlayedFrom lines.entry.now table.entry.now from first.entry.now first.exit.now }
     { writers_from(rt, gate, table, service, specs, lines, from, first) };
     let mut start_rest = ||
-        requires { IsNamed N.table N.setup table.now × (specs.now ≡ N.setup.writers) × AreReadyFrom lines.now table.now behind rest.now }
+        requires { IsNamed N.table N.setup table.now × (specs.now ≡ N.setup.writers) × (lines.now ≡ N.lines) × AreReadyFrom lines.now table.now behind rest.now }
         ensures { HavePlayedFrom lines.entry.now table.entry.now behind rest.entry.now rest.exit.now }
     { writers_from(rt, gate, table, service, specs, lines, behind, rest) };
     join_mut(rt, &mut play_first, &mut start_rest);
 }
 
+/// A writer's job, with a count of its own of how often it has chunks taken.
+fn counted_job<N: HostName, R: Wait, G: Gate>(
+    rt: &R,
+    gate: &G,
+    table: &HostTable,
+    service: &Mutex<Locked<N>>,
+    specs: &[WriterSpec],
+    lines: &LinesByWriter<'_>,
+    place: usize,
+    writer: &mut TraceWriter,
+)
+    requires table { IsNamed N.table N.setup table.now }
+    requires specs { specs.now ≡ N.setup.writers }
+    requires lines { lines.now ≡ N.lines }
+    requires ready { IsReady lines.now table.now place writer.old }
+    ensures played { HasPlayed lines.now (Flushed ∷ []) table.now place writer.new }
+{
+    job_on::<N, R, G, Brand>(
+        rt,
+        gate,
+        table,
+        service,
+        specs,
+        lines,
+        place,
+        writer,
+        Blank::new(1),
+    );
+}
+
+/// The job, with that count on the ledger of a blank.
+fn job_on<N: HostName, R: Wait, G: Gate, K: Ledger>(
+    rt: &R,
+    gate: &G,
+    table: &HostTable,
+    service: &Mutex<Locked<N>>,
+    specs: &[WriterSpec],
+    lines: &LinesByWriter<'_>,
+    place: usize,
+    writer: &mut TraceWriter,
+    takings: Blank,
+)
+    requires table { IsNamed N.table N.setup table.now }
+    requires specs { specs.now ≡ N.setup.writers }
+    requires lines { lines.now ≡ N.lines }
+    requires ready { IsReady lines.now table.now place writer.old }
+    requires name { takings.name ≡ K.name }
+    requires parts { takings.parts ≡ K.parts }
+    requires some_part { 0 < K.parts }
+    ensures played { HasPlayed lines.now (Flushed ∷ []) table.now place writer.new }
+{
+    let takings = Takings::<K>::new(takings);
+    let _asked = writer_job(
+        rt, gate, table, service, specs, lines, place, writer, takings,
+    );
+}
+
 /// The service plays its lines beside the writers, each of which plays its own. The service comes back
-/// as one of the same table. How often it has chunks taken stands on this blank's ledger.
+/// as one of the same table, with the tally of the answers that it has read. How often it has chunks taken
+/// and answers read stands on the ledgers of these blanks.
 pub fn run_named<
     N: HostName + Send + Sync,
     R: Threads + Wait + Sync,
     G: Gate + Sync,
     O: Sink + Send,
     L: Ledger + Send,
+    K: Ledger + Send,
 >(
     rt: &R,
     gate: &G,
     table: &HostTable,
     service: Service,
+    tally: Tally,
     specs: &[WriterSpec],
     lines: &LineList,
     own: &LinesByWriter<'_>,
@@ -132,15 +201,22 @@ pub fn run_named<
     out: &mut O,
     writers: &mut [TraceWriter],
     takings: Blank,
-) -> (Service, Result<(), WriteFault>)
+    readings: Blank,
+) -> (Service, Tally, Result<(), WriteFault>)
     requires table { IsNamed N.table N.setup table.now }
     requires specs { specs.now ≡ N.setup.writers }
     requires lines { lines.now ≡ N.lines }
+    requires own_lines { own.now ≡ N.lines }
     requires serves { ServesNamed N.table N.setup service }
     requires open { AllOpen N.setup service }
     requires began { BeganWith N.setup N.first service }
     requires own { HasOwn service }
     requires grows { Grows N.setup N.lines N.start (view_in service) }
+    requires started { IsStarted service }
+    requires few { asked_in (view_in service).letters ≤ requests_in N.lines }
+    requires tallied { IsTally (requests_in N.lines) (length N.setup.writers) (view_in service).letters tally }
+    requires none_asked { asked_in (known_by_pass pass.old).letters ≡ 0 }
+    requires few_requests { requests_in N.lines < MOST_REQUESTS }
     requires pass { Passes table.now pass.old }
     requires known { IsKnownWhole (known_by_pass pass.old) }
     requires may { O.may_write out.old }
@@ -148,30 +224,50 @@ pub fn run_named<
     requires takings_name { takings.name ≡ L.name }
     requires takings_parts { takings.parts ≡ L.parts }
     requires takings_part { 0 < L.parts }
+    requires readings_name { readings.name ≡ K.name }
+    requires readings_parts { readings.parts ≡ K.parts }
+    requires readings_part { 0 < K.parts }
     ensures serves { ServesNamed N.table N.setup result.0 }
     ensures open { AllOpen N.setup result.0 }
     ensures began { BeganWith N.setup N.first result.0 }
     ensures own { HasOwn result.0 }
     ensures grows { Grows N.setup N.lines N.start (view_in result.0) }
+    ensures started { IsStarted result.0 }
+    ensures few { asked_in (view_in result.0).letters ≤ requests_in N.lines }
+    ensures tallied { IsTally (requests_in N.lines) (length N.setup.writers) (view_in result.0).letters result.1 }
     ensures pass { Passes table.now pass.new }
     ensures known { IsKnownWhole (known_by_pass pass.new) }
-    ensures told { IfOk result.1 (λ _. TellsLines N.setup N.first lines.now (known_by_pass pass.old) (known_by_pass pass.new)
+    ensures told { IfOk result.2 (λ _. TellsLines N.setup N.first lines.now (known_by_pass pass.old) (known_by_pass pass.new)
         (O.taken out.old) (O.taken out.new)) }
-    ensures fails { OnErr result.1 (FailsLines N.setup N.first lines.now (known_by_pass pass.old) (known_by_pass pass.new)
+    ensures fails { OnErr result.2 (FailsLines N.setup N.first lines.now (known_by_pass pass.old) (known_by_pass pass.new)
         (O.taken out.old) (O.taken out.new)) }
     ensures stands { KeepsLoans (O.taken out.old) (O.taken out.new) }
-    ensures count { CountsFaults (O.faults out.old) (O.faults out.new) result.1 }
-    ensures goes_on { OnOk result.1 (O.may_write out.new) }
+    ensures count { CountsFaults (O.faults out.old) (O.faults out.new) result.2 }
+    ensures goes_on { OnOk result.2 (O.may_write out.new) }
     ensures played { HavePlayedFrom own.now table.now 0 writers.old writers.new }
 {
-    let locked = Mutex::new(Locked::<N>::new(service));
+    let locked = Mutex::new(Locked::<N>::new(service, tally));
     let mut takings = Takings::<L>::new(takings);
+    let mut readings = Readings::<K>::new(readings);
     let (told, ()) = join_mut(
         rt,
-        &mut || service_job(rt, gate, table, &locked, lines, pass, out, &mut takings),
+        &mut || {
+            service_job(
+                rt,
+                gate,
+                table,
+                &locked,
+                lines,
+                pass,
+                out,
+                &mut takings,
+                &mut readings,
+            )
+        },
         &mut ||
-            requires { IsNamed N.table N.setup table.now × (specs.now ≡ N.setup.writers) × AreReadyFrom own.now table.now 0 writers.now }
+            requires { IsNamed N.table N.setup table.now × (specs.now ≡ N.setup.writers) × (own.now ≡ N.lines) × AreReadyFrom own.now table.now 0 writers.now }
         { writers_from(rt, gate, table, &locked, specs, own, 0, writers) },
     );
-    (locked.into_inner().into_service(), told)
+    let (service, tally) = locked.into_inner().into_parts();
+    (service, tally, told)
 }

@@ -1,5 +1,6 @@
 //! A run, once its threads are done and all that its writers completed is taken.
 ghost use Rattle.std.specs.Prelude.{◌≡◌, ◌≤◌, false, List, [], length, map, vec_capacity, IfSome};
+ghost use Rattle.chunk_plain.specs.Views.{ServiceView, asked_in};
 ghost use Rattle.chunk_plain.specs.declared.tokens.TheConstants.{ID_LIMIT};
 ghost use Rattle.chunk_plain.specs.Histories.{completed_images};
 ghost use Rattle.chunk_words.specs.declared.host.HostTable.{HostTable};
@@ -10,15 +11,18 @@ ghost use Rattle.chunk_words.specs.Sits.{Sits, setup_in, known_by, known_by_pass
 ghost use Rattle.scenario_text.specs.declared.scenario.NumberedLine.{NumberedLine};
 ghost use Rattle.scenario_text.specs.Scenario.{Parts};
 ghost use Rattle.trace_writer.specs.Core.{holds_chunk};
-ghost use Rattle.service_core.specs.Agreement.{KeepsRest};
+ghost use Rattle.run_model.specs.Settled.{last_flushes};
 ghost use Rattle.thread_service.specs.Serving as serving;
 ghost use Rattle.thread_service.specs.Serving.{Serves, IsOnlySeat};
 ghost use Rattle.thread_service.specs.Settling.{TakesAllOut};
 ghost use Rattle.thread_writer.specs.Writing.{core_of, view_in, Writes};
 ghost use Rattle.thread_host.specs.Ending.{begun_counts, AreDoneSeats, HasHeardAll};
-ghost use Rattle.thread_host.specs.Hosts.{IsHost, IsSettled, HavePlayed};
+ghost use Rattle.thread_host.specs.Growing.{IsHearing};
+ghost use Rattle.thread_host.specs.Hosts.{IsHost, IsSettled, HaveAnswered, HasReadAnswers, HavePlayed};
+ghost use Rattle.thread_host.specs.Tally.{KeepsServing};
 
 use crate::host::Host;
+use crate::reading::read_answers;
 use chunk_words::{HostTable, ReadPass, WriterSeat};
 use loss_report::{Done, SequenceCounts};
 use thread_service::Service;
@@ -37,18 +41,24 @@ pub struct Settled {
 }
 
 impl Host {
-    /// Marks the world in which the writers are done, and has all taken that they completed. Their
-    /// seats know what they knew. What the service knows grows by rounds that take complete chunks,
-    /// producer by producer in rising number, and by nothing else.
+    /// Has the service read its writers' last answers to flush requests once it has heard of each writer,
+    /// marks the world in which the writers are done, and has all taken that they completed. Their seats
+    /// know what they knew. What the service knows grows by the answers that it reads, and then by rounds that
+    /// take complete chunks, producer by producer in rising number, and by nothing else. No request was made
+    /// behind those that the reading pass knows. Where each writer has answered the last of them, these
+    /// answers were read.
     pub fn settle(self, writers: Vec<TraceWriter>) -> Settled
-        requires played { (scenario : Parts) × IsHost scenario self × HavePlayed scenario.lines self.table writers.items }
-        ensures settled { (scenario : Parts) → IsHost scenario self → HavePlayed scenario.lines self.table writers.items
+        requires played { (scenario : Parts) × IsHost scenario self × HavePlayed scenario.lines last_flushes self.table writers.items }
+        ensures settled { (scenario : Parts) → IsHost scenario self → HavePlayed scenario.lines last_flushes self.table writers.items
             → IsSettled scenario result }
         ensures writers { views_of result.seats.items ≡ map view_in writers.items }
-        ensures service { IfSome self.service (λ before. KeepsRest (setup_in self.table)
+        ensures service { IfSome self.service (λ before. KeepsServing (setup_in self.table)
             (serving.core_of before) (serving.core_of result.service)) }
-        ensures takes { IfSome self.service (λ before. TakesAllOut (setup_in self.table) (length (setup_in self.table).ranges)
-            (serving.view_in before) (serving.view_in result.service)) }
+        ensures takes { IfSome self.service (λ before. (heard : ServiceView) × IsHearing (serving.view_in before) heard
+            × TakesAllOut (setup_in self.table) (length (setup_in self.table).ranges) heard (serving.view_in result.service)) }
+        ensures requests { asked_in (serving.view_in result.service).letters ≡ asked_in (known_by_pass self.pass).letters }
+        ensures answered { HaveAnswered (asked_in (known_by_pass self.pass).letters) writers.items
+            → HasReadAnswers self.table (serving.view_in result.service) }
         ensures table { result.table ≡ self.table }
         ensures pass { known_by_pass result.pass ≡ known_by_pass self.pass }
     {
@@ -56,13 +66,17 @@ impl Host {
             alloc: _,
             table,
             service,
-            pass,
+            tally,
+            mut pass,
             specs: _,
             mut seats,
             producers,
             mut counts,
         } = self;
         let Some(mut service) = service else {
+            unreachable!()
+        };
+        let Some(mut tally) = tally else {
             unreachable!()
         };
         end_writers(
@@ -72,6 +86,9 @@ impl Host {
             &mut seats,
             &mut counts.sequences,
         );
+        read_answers(&mut service, &table, &mut tally);
+        service.compare(&table, &mut pass);
+        counts.flushes = tally.into_sums();
         service.mark(&table);
         service.settle(&table, producers);
         Settled {
@@ -95,7 +112,7 @@ fn end_writers(
     sequences: &mut [SequenceCounts],
 )
     requires serves { Serves table.now service.old }
-    requires played { (lines : List NumberedLine) × HavePlayed lines table.now writers.items }
+    requires played { (lines : List NumberedLine) × HavePlayed lines last_flushes table.now writers.items }
     requires none { seats.old.items ≡ [] }
     requires room { length (setup_in table.now).writers ≤ vec_capacity seats.old }
     requires sequences { length sequences.old ≡ length (setup_in table.now).writers }
@@ -105,7 +122,7 @@ fn end_writers(
     ensures many { length seats.new.items ≡ length (setup_in table.now).writers }
     ensures know { views_of seats.new.items ≡ map view_in writers.items }
     ensures heard { HasHeardAll (length (serving.view_in service.new).looks) (serving.desk_in service.new) seats.new.items }
-    ensures done { (lines : List NumberedLine) → HavePlayed lines table.now writers.items
+    ensures done { (lines : List NumberedLine) → HavePlayed lines last_flushes table.now writers.items
         → AreDoneSeats lines table.now seats.new.items sequences.new }
 {
     let mut left = writers;

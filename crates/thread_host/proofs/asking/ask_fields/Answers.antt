@@ -8,6 +8,7 @@ use Rattle.replay_host.specs.Asking.{IsShortCall}
 use Rattle.replay_host.proofs.FieldLemmas.{short_is}
 use Rattle.thread_host.specs.Playing.{WasAsked}
 use Rattle.thread_host.proofs.Going.{asked_none, node_next, nodes_more}
+use Rattle.thread_host.proofs.Helped.{helps_none, helps_both}
 use Rattle.thread_host.proofs.asking.ask_fields.Goals as goal
 
 pub nodes-init : goal.nodes-init
@@ -16,6 +17,7 @@ nodes-init g c = record {
   cut = sym c.fields-left.ensures;
   asked = asked_none g.H.Helper.helps g.H.Helper.of_table c.args.table.now c.args.help.now c.args.writer.now;
   going = rw c.fields-left.ensures c.requires.going;
+  helped = helps_none g.H.Helper.helps c.args.help.now c.args.writer.now;
 }
 
 pub ask-requires-clause-short : goal.ask-requires-clause-short
@@ -39,6 +41,8 @@ nodes-preserved g c =
       cut = c.nodes.invariant.cut ∙ ap (λ (nodes : List Shown). before ++ nodes) c.in-Some.ensures.first ∙ sym (append_assoc before (one ∷ []) others);
       asked = nodes_more g.H.Helper.helps g.H.Helper.of_table c.args.table.now before one c.args.help.now c.nodes.help c.ask.new.help
           c.args.writer.now c.nodes.writer c.ask.new.writer c.nodes.invariant.asked asked;
+      helped = helps_both g.H.Helper.helps c.args.help.now c.nodes.help c.ask.new.help c.args.writer.now c.nodes.writer c.ask.new.writer
+          c.nodes.invariant.helped c.ask.ensures.helped;
       going = (
         c.nodes.invariant.going.0,
         c.nodes.invariant.going.1 ++ node_call one ∷ [],
@@ -58,4 +62,5 @@ returns g c =
     record {
       asked = subst (λ (nodes : List Shown). WasAsked g.H.Helper.helps g.H.Helper.of_table c.args.table.now (map node_call nodes)
           c.args.help.now c.args.writer.now c.nodes.help c.nodes.writer) (sym all) c.nodes.invariant.asked;
+      helped = c.nodes.invariant.helped;
     }

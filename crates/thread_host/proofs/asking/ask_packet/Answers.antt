@@ -3,6 +3,7 @@ use Rattle.std.proofs.Common.{true, List, [], ◌∷◌, ◌++◌, map}
 use Rattle.trace_model.specs.Calls.{Call, Begun, Finished}
 use Rattle.scenario_text.specs.Accepted.{node_call}
 use Rattle.thread_host.proofs.Going.{asked_both, fields_next}
+use Rattle.thread_host.proofs.Helped.{helps_both}
 use Rattle.thread_host.proofs.asking.ask_packet.Goals as goal
 
 pub ask_fields-requires : goal.ask_fields-requires
@@ -44,4 +45,8 @@ returns g c =
           (asked_both g.H.Helper.helps g.H.Helper.of_table c.args.table.now fields (Finished ∷ [])
           c.ask.new.help c.ask_fields.new.help c.ask-2.new.help c.ask.new.writer c.ask_fields.new.writer c.ask-2.new.writer
           c.ask_fields.ensures.asked c.ask-2.ensures.asked);
+      helped = helps_both g.H.Helper.helps c.args.help.now c.ask.new.help c.ask-2.new.help c.args.writer.now c.ask.new.writer c.ask-2.new.writer
+          c.ask.ensures.helped
+          (helps_both g.H.Helper.helps c.ask.new.help c.ask_fields.new.help c.ask-2.new.help c.ask.new.writer c.ask_fields.new.writer c.ask-2.new.writer
+          c.ask_fields.ensures.helped c.ask-2.ensures.helped);
     }

@@ -2,9 +2,10 @@
 use Rattle.std.proofs.Common.{◌≡◌, ◌∙◌, ◌+◌, ◌≤◌, List, [], ◌∷◌, ◌++◌, refl, sym, ap, subst, append-nil, append_assoc, arith}
 use Rattle.chunk_words.specs.Sits.{known_by_pass}
 use Rattle.scenario_text.specs.declared.scenario.NumberedLine.{NumberedLine}
-use Rattle.thread_host.specs.Jobs.{FailsLines, TellsLines, takings_of, takings_in}
+use Rattle.replay_model.specs.Flushes.{request_count, requests_in}
+use Rattle.thread_host.specs.Jobs.{FailsLines, TellsLines, readings_in, takings_of, takings_in}
 use Rattle.thread_host.proofs.Collected.{collected_here}
-use Rattle.thread_host.proofs.Counted.{takings_more, takings_front}
+use Rattle.thread_host.proofs.Counted.{readings_more, requests_both, takings_more, takings_front}
 use Rattle.thread_host.proofs.Parts.{scraped_here}
 use Rattle.thread_host.proofs.Telling.{fails_behind, on_err, tells_none, tells_more}
 use Rattle.thread_host.proofs.job.service_job.Goals as goal
@@ -18,6 +19,7 @@ lines-init g c = record {
   told = tells_none g.N.HostName.setup g.N.HostName.first (known_by_pass c.args.pass.now) (g.O.Sink.taken c.args.out.now);
   stands = refl;
   asks = omega arith;
+  reads = omega arith;
   steady = refl;
   may = c.requires.may;
 }
@@ -31,6 +33,19 @@ pub play_line-requires-clause-scraped : goal.play_line-requires-clause-scraped
 play_line-requires-clause-scraped g c producer is =
     scraped_here c.lines.invariant.before c.next.new.self g.N.HostName.lines c.in-Some.line producer
     (ap (λ (ls : List NumberedLine). c.lines.invariant.before ++ ls) (sym c.in-Some.ensures.first) ∙ c.lines.invariant.all ∙ c.requires.lines) is
+
+pub play_line-requires-clause-room : goal.play_line-requires-clause-room
+play_line-requires-clause-room g c is =
+    let before : List NumberedLine = c.lines.invariant.before in
+    let line : NumberedLine = c.in-Some.line in
+    let all : before ++ line ∷ c.next.new.self ≡ g.N.HostName.lines =
+    ap (λ (ls : List NumberedLine). before ++ ls) (sym c.in-Some.ensures.first) ∙ c.lines.invariant.all ∙ c.requires.lines in
+    let both = requests_both before (line ∷ c.next.new.self) in
+    let many = ap requests_in all in
+    let one = ap request_count is in
+    let told = c.lines.invariant.told.requests in
+    let none = c.requires.none_asked in
+    omega (arith, both, many, one, told, none)
 
 pub lines-preserved : goal.lines-preserved
 lines-preserved g c =
@@ -48,6 +63,9 @@ lines-preserved g c =
       asks =
           let more = takings_more before line in
           omega (arith, more, c.in_ok-play_line.ensures.asks, c.lines.invariant.asks);
+      reads =
+          let more = readings_more before line in let one = c.begin_line-number.ensures.reads in
+          omega (arith, more, one, c.lines.invariant.reads);
       steady = c.in_ok-play_line.ensures.count ∙ c.lines.invariant.steady;
       may = c.in_ok-play_line.ensures.goes_on;
     }
@@ -91,6 +109,14 @@ returns-clause-asks g c =
     let all : before ≡ c.args.lines.now =
     sym (append-nil before) ∙ ap (λ (ls : List NumberedLine). before ++ ls) (sym none.0) ∙ c.lines.invariant.all in
     subst (λ (ls : List NumberedLine). c.lines.takings ≡ c.args.takings.now + takings_in ls) all c.lines.invariant.asks
+
+pub returns-clause-reads : goal.returns-clause-reads
+returns-clause-reads g c =
+    let before : List NumberedLine = c.lines.invariant.before in
+    let none = rw c.in_default.is at c.next.ensures.none in
+    let all : before ≡ c.args.lines.now =
+    sym (append-nil before) ∙ ap (λ (ls : List NumberedLine). before ++ ls) (sym none.0) ∙ c.lines.invariant.all in
+    subst (λ (ls : List NumberedLine). c.lines.readings ≡ c.args.readings.now + readings_in ls) all c.lines.invariant.reads
 
 pub returns-clause-most : goal.returns-clause-most
 returns-clause-most g c =

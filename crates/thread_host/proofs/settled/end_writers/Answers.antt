@@ -3,6 +3,7 @@ use Rattle.std.proofs.Common.{◌≡◌, ◌∙◌, ℕ, ◌+◌, ◌<◌, Some,
 use Rattle.std.specs.Prelude.{slice_get, slice_set}
 use Rattle.trace_base.proofs.Lists.{get_seam}
 use Rattle.chunk_plain.specs.Letters.{last_flush}
+use Rattle.run_model.specs.Settled.{last_flushes}
 use Rattle.chunk_words.specs.declared.seats.WriterSeat.{WriterSeat}
 use Rattle.chunk_words.specs.Closed.{views_of}
 use Rattle.chunk_words.specs.Knows.{Desk}
@@ -75,7 +76,7 @@ writers-preserved c =
     let old_looks = length (serving.view_in c.writers.service).looks in
     let looks_same : length (serving.view_in c.writers.service).looks ≡ length (serving.view_in c.end_writer-seat.new.service).looks =
     ap (λ v. length v.looks) (sym ends.view) in
-    let last = subst (λ (p : ℕ). HasPlayed c.requires.played.0 c.args.table.now p writer) here played in
+    let last = subst (λ (p : ℕ). HasPlayed c.requires.played.0 last_flushes c.args.table.now p writer) here played in
     let heard = heard_all old_looks (serving.desk_in c.writers.service) (serving.view_in c.writers.service) (core_of writer).seat.place (view_in writer).begun (last_flush (view_in writer).letters.answers)
     seats seat i.heard
     (heard_last c.requires.played.0 c.args.table.now place (serving.view_in c.writers.service) (serving.desk_in c.writers.service) writer seat last ends.knows ends.few) in
@@ -102,7 +103,7 @@ writers-preserved c =
           (sym items) heard_now;
       ended = λ lines have.
           let one = done_seat lines c.args.table.now place writer seat counts
-          (subst (λ (p : ℕ). HasPlayed lines c.args.table.now p writer) here (have.each c.writers.place writer there)) ends.sits ends.knows ends.place ends.counts in
+          (subst (λ (p : ℕ). HasPlayed lines last_flushes c.args.table.now p writer) here (have.each c.writers.place writer there)) ends.sits ends.knows ends.place ends.counts in
           subst (λ (ss : List WriterSeat). AreDoneSeats lines c.args.table.now ss (slice_set c.writers.sequences c.writers.place counts)) (sym items)
           (subst (λ (p : ℕ). AreDoneSeats lines c.args.table.now (seats ++ seat ∷ []) (slice_set c.writers.sequences p counts)) (sym here)
           (done_all lines c.args.table.now seats seat c.writers.sequences counts inside (i.ended lines have) one));

@@ -3,6 +3,7 @@ use Rattle.std.proofs.Common.{◌≡◌, ◌≤◌, List, ◌++◌, length, map}
 use Rattle.std.specs.Prelude.{vec_capacity}
 use Rattle.chunk_words.specs.Closed.{views_of}
 use Rattle.chunk_words.specs.Sits.{setup_in}
+use Rattle.run_model.specs.Settled.{last_flushes}
 use Rattle.scenario_text.specs.declared.scenario.NumberedLine.{NumberedLine}
 use Rattle.thread_service.specs.Serving as serving
 use Rattle.thread_service.specs.Serving.{Serves, IsOnlySeat}
@@ -25,5 +26,5 @@ invariant-writers l = record {
   view : serving.view_in l.service ≡ serving.view_in l.fn.service;
   only : IsOnlySeat (serving.core_of l.fn.service) (serving.core_of l.service);
   heard : HasHeardAll (length (serving.view_in l.service).looks) (serving.desk_in l.service) l.seats.items;
-  ended : (lines : List NumberedLine) → HavePlayed lines l.table l.fn.writers.items → AreDoneSeats lines l.table l.seats.items l.sequences;
+  ended : (lines : List NumberedLine) → HavePlayed lines last_flushes l.table l.fn.writers.items → AreDoneSeats lines l.table l.seats.items l.sequences;
 }

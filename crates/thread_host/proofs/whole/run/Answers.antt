@@ -1,10 +1,12 @@
 -- What the jobs told, and what was read behind them, is a run.
-use Rattle.std.proofs.Common.{◌∙◌, sym, subst}
-use Rattle.chunk_plain.specs.Views.{ServiceView}
+use Rattle.std.proofs.Common.{◌∙◌, sym, ap, subst}
+use Rattle.chunk_plain.specs.Views.{ServiceView, asked_in}
 use Rattle.chunk_words.specs.declared.host.HostTable.{HostTable}
 use Rattle.chunk_words.specs.Sits.{setup_in, known_by_pass}
 use Rattle.scenario_text.specs.Scenario.{Parts, parts_of}
 use Rattle.replay_model.specs.Played.{buffers_of}
+use Rattle.thread_service.specs.Serving.{view_in}
+use Rattle.thread_host.specs.Hosts.{HasReadAnswers}
 use Rattle.thread_host.specs.Jobs.{FailsLines, TellsLines}
 use Rattle.thread_host.proofs.WholeLemmas.{end_fails, has_run, lines_fail}
 use Rattle.thread_host.proofs.whole.run.Goals as goal
@@ -22,9 +24,12 @@ returns-in-Ok-finish-clause-ends g c =
     (sym c.settle-settled.ensures.pass) c.in-Ok-ran.ensures.told in
     let same_table = subst (λ (table : HostTable). TellsLines (setup_in table) (buffers_of scenario (setup_in table)) scenario.lines first (known_by_pass settled.pass) before between)
     (sym (c.settle-settled.ensures.table ∙ c.run-ran.ensures.table)) same_pass in
+    let answers = subst (λ (table : HostTable). HasReadAnswers table (view_in settled.service)) (sym c.settle-settled.ensures.table)
+    (c.settle-settled.ensures.answered c.run-ran.ensures.answered) in
     let finished = c.in-Ok-finish.ensures.done scenario (c.settle-settled.ensures.settled scenario c.run-ran.ensures.host c.run-ran.ensures.played) in
     has_run c.every_run_is_faithful.ensures c.every_run_is_balanced.ensures c.every_run_counts_packets.ensures c.every_enough_run_is_complete.ensures
-    c.args.scenario.now settled first before between after c.in-Ok-finish.done c.requires.scenario c.in-Ok.ensures.unread same_table finished
+    c.args.scenario.now settled first before between after c.in-Ok-finish.done c.requires.scenario c.in-Ok.ensures.unread same_table c.in-Ok.ensures.unasked
+    (c.settle-settled.ensures.requests ∙ ap (λ (v : ServiceView). asked_in v.letters) (sym c.settle-settled.ensures.pass)) answers finished
 
 pub returns-in-Err-finish-clause-ends : goal.returns-in-Err-finish-clause-ends
 returns-in-Err-finish-clause-ends g c =

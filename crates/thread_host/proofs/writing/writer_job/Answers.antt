@@ -1,39 +1,42 @@
--- A writer that drops asks no helper.
+-- A writer that drops asks no helper, and one that begins no packet wants none.
 use Rattle.std.proofs.Common.{◌∙◌, sym, ap, arith}
-use Rattle.trace_base.specs.declared.policy.WriterSpec.{WriterSpec}
-use Rattle.chunk_plain.specs.Setup.{Setup}
 use Rattle.service_core.specs.Agreement.{spec_at}
 use Rattle.run_model.specs.Collected.{asks_help}
 use Rattle.thread_writer.specs.contracts.helper.NoHelpHelper.TheImpl.{ghosts as nobody}
-use Rattle.thread_host.proofs.Going.{spec_is}
-use Rattle.thread_host.proofs.PlayedWriters.{begins, drops_never}
+use Rattle.thread_host.specs.Playing.{lost_in}
+use Rattle.thread_host.proofs.Helped.{idle_helps, none_wanted}
+use Rattle.thread_host.proofs.PlayedWriters.{asks_too, begins, drops_never, none_lost, policy_here}
 use Rattle.thread_host.proofs.writing.writer_job.Goals as goal
 
-pub returns-in-Drops : goal.returns-in-Drops
-returns-in-Drops g c = record {
-  played = c.play_all.ensures.played c.args.place (omega arith)
-      (begins nobody.helps nobody.of_table c.args.lines.now c.args.table.now c.args.place _ _ c.args.writer.now (omega arith) c.requires.ready tt
-      (drops_never nobody.helps c.args.lines.now c.args.table.now c.args.place c.args.writer.now c.requires.ready
-      (sym (c.policy.ensures c.args.table.now c.requires.ready.writes) ∙ c.in-Drops.is)));
-}
+pub returns-then-not-asks_help-clause-played : goal.returns-then-not-asks_help-clause-played
+returns-then-not-asks_help-clause-played g c =
+    let ready = c.requires.ready in
+    c.play_all.ensures.played c.args.place (omega arith)
+    (begins nobody.helps nobody.of_table c.args.lines.now c.args.table.now c.args.place _ _ c.args.writer.now (omega arith) ready tt
+    (drops_never nobody.helps c.args.lines.now c.args.table.now c.args.place c.args.writer.now ready
+    (ap asks_help (sym (c.policy.ensures c.args.table.now ready.writes)) ∙ sym c.asks_help.ensures ∙ c.if-not-asks_help.true)))
 
--- One that stalls, for ever or so often, asks for help.
+pub returns-then-not-asks_help-clause-asks : goal.returns-then-not-asks_help-clause-asks
+returns-then-not-asks_help-clause-asks g c =
+    let ready = c.requires.ready in
+    none_wanted c.args.takings (lost_in c.play_all.new.writer) (spec_at g.N.HostName.setup.writers c.args.place).policy
+    (ap asks_help (sym (policy_here g.N.HostName.setup c.args.lines.now c.args.table.now c.args.place c.args.writer.now c.requires.table.setup_is ready))
+    ∙ ap asks_help (sym (c.policy.ensures c.args.table.now ready.writes)) ∙ sym c.asks_help.ensures ∙ c.if-not-asks_help.true)
+
+pub returns-then-not-begins_packets-clause-asks : goal.returns-then-not-begins_packets-clause-asks
+returns-then-not-begins_packets-clause-asks g c =
+    let ready = c.requires.ready in
+    idle_helps _ _ c.args.writer.now _ _ c.play_all-then-not-begins_packets.ensures.helped
+    (none_lost c.args.lines.now c.args.table.now c.args.place c.args.writer.now ready)
+    (spec_at g.N.HostName.setup.writers c.args.place).policy
+    (policy_here g.N.HostName.setup c.args.lines.now c.args.table.now c.args.place c.args.writer.now c.requires.table.setup_is ready)
+    c.args.takings (λ helper producer answer next helped. helped)
+
+-- One that stalls, for ever or so often, and begins a packet, asks for help.
 pub play_helped-requires-clause-asks : goal.play_helped-requires-clause-asks
 play_helped-requires-clause-asks g c =
     let ready = c.requires.ready in
-    let policy =
-    ap (λ (s : Setup). (spec_at s.writers c.args.place).policy) (sym c.requires.table.setup_is)
-    ∙ ap (λ (s : WriterSpec). s.policy) (sym (spec_is c.args.table.now c.args.place c.args.writer.now ready.writes ready.place_is))
-    ∙ sym (c.policy.ensures c.args.table.now ready.writes)
-    ∙ c.in-Stalls.is in
-    ap asks_help policy
-
-pub play_helped-requires-in-StallsThenDrops-clause-asks : goal.play_helped-requires-in-StallsThenDrops-clause-asks
-play_helped-requires-in-StallsThenDrops-clause-asks g c =
-    let ready = c.requires.ready in
-    let policy =
-    ap (λ (s : Setup). (spec_at s.writers c.args.place).policy) (sym c.requires.table.setup_is)
-    ∙ ap (λ (s : WriterSpec). s.policy) (sym (spec_is c.args.table.now c.args.place c.args.writer.now ready.writes ready.place_is))
-    ∙ sym (c.policy.ensures c.args.table.now ready.writes)
-    ∙ c.in-StallsThenDrops.is in
-    ap asks_help policy
+    asks_too g.N.HostName.setup g.N.HostName.lines c.args.lines.now c.args.place _ c.begins_packets.result
+    (ap asks_help (sym (policy_here g.N.HostName.setup c.args.lines.now c.args.table.now c.args.place c.args.writer.now c.requires.table.setup_is ready))
+    ∙ ap asks_help (sym (c.policy.ensures c.args.table.now ready.writes)) ∙ sym c.asks_help.ensures ∙ c.if-not-asks_help.false)
+    c.begins_packets.ensures c.if-not-begins_packets.false c.requires.lines (omega arith)

@@ -1,5 +1,5 @@
 -- The parts of a host, each made for the scenario.
-use Rattle.std.proofs.Common.{◌≡◌, ◌∙◌, ◌<◌, ◌≤◌, false, List, length, map, refl, sym, ap, subst, arith, rules}
+use Rattle.std.proofs.Common.{◌≡◌, ◌∙◌, ℕ, ◌<◌, ◌≤◌, false, List, [], length, map, refl, sym, ap, subst, arith, rules}
 use Rattle.std.specs.List.{AllByRecursion}
 use Rattle.std.proofs.lemmas.List.{length-map}
 use Rattle.trace_base.specs.declared.limits.TheConstants.{MAX_BUFFERS, MAX_WRITERS}
@@ -11,7 +11,7 @@ use Rattle.chunk_plain.specs.declared.setup.ProducerSpec.{ProducerSpec}
 use Rattle.chunk_plain.specs.Laying.{setup_of}
 use Rattle.chunk_plain.specs.Plain.{first_world}
 use Rattle.chunk_plain.specs.Setup.{Setup}
-use Rattle.chunk_plain.specs.Views.{ServiceView, asked_in}
+use Rattle.chunk_plain.specs.Views.{Letter, ServiceView, asked_in}
 use Rattle.chunk_words.specs.Sits.{setup_in, known_by_service}
 use Rattle.trace_buffer.specs.declared.answers.BufferSpec.{BufferSpec}
 use Rattle.service_core.specs.Agreement.{AreKnownNotes, is_closed}
@@ -22,7 +22,10 @@ use Rattle.replay_host.proofs.MomentLemmas.{ranges_many}
 use Rattle.replay_host.proofs.SetUpLemmas.{made_as_asked, specs_few, specs_some_page, specs_few_pages, specs_routed, specs_fit, specs_sizes}
 use Rattle.thread_service.specs.Serving as serving
 use Rattle.thread_host.specs.Hosts.{IsServed}
-use Rattle.thread_host.proofs.Made.{are_ready, is_served, nothing_collected}
+use Rattle.session_core.specs.Sessions.{SessionValue}
+use Rattle.replay_model.specs.Flushes.{requests_in}
+use Rattle.thread_host.specs.Tally.{IsTally}
+use Rattle.thread_host.proofs.Made.{are_ready, is_served, nothing_collected, requests_fit}
 use Rattle.thread_host.proofs.host.Host.make.Goals as goal
 
 pub producer_specs-requires : goal.producer_specs-requires
@@ -106,6 +109,11 @@ make-requires-2-clause-fits c =
     (c.deref-5.ensures.value ∙ c.in_ok-buffers.ensures ∙ ap (map buffer_asked) c.deref-2.ensures.value) c.deref-6.ensures.value
     c.deref-7.ensures.value
 
+pub make-requires-3 : goal.make-requires-3
+make-requires-3 c =
+    let few = (scenario_is_set_up c.args.scenario.now c.requires.scenario).few_writers in
+    let asked = c.len-3.ensures in let long = c.args.scenario.now.writers.ok.0 in omega (arith, few, asked, long)
+
 pub fill_writers-requires-clause-named : goal.fill_writers-requires-clause-named
 fill_writers-requires-clause-named c =
     let kept : c.in_ok-specs.specs.items ≡ c.args.scenario.now.writers.items = search rules in
@@ -118,7 +126,7 @@ fill_writers-requires-clause-named c =
 pub overflow_cast-host : goal.overflow_cast-host
 overflow_cast-host c =
     let few = (scenario_is_set_up c.args.scenario.now c.requires.scenario).few_producers in
-    let asked = c.len-5.ensures in
+    let asked = c.len-6.ensures in
     search (arith, rules, few, asked)
 
 pub returns : goal.returns
@@ -149,7 +157,7 @@ returns c =
     (λ place below. subst (λ (s : Setup). is_closed s (serving.core_of service) place ≡ false) (sym again)
     (c.in_ok-service.ensures.open place (subst (λ (ws : List WriterSpec). place < length ws) (sym c.deref-7.ensures.value) below)))
     (c.in_ok-service.ensures.specs ∙ c.deref-5.ensures.value ∙ c.in_ok-buffers.ensures ∙ ap (map buffer_asked) c.deref-2.ensures.value)
-    seen in
+    seen (ap (λ (s : SessionValue). s.state) c.in_ok-service.ensures.session) in
     let known : (first_world (setup_in table)).service ≡ _ = sym (c.pass-pass.ensures.known ∙ c.in_ok-table.ensures.service_view) in
     record {
       host = record {
@@ -158,7 +166,7 @@ returns c =
         producers =
             let long = ranges_many (parts_of scenario) (setup_in table) (record { specs = specs; made = made; laid = setup_is }) in
             let few = (scenario_is_set_up scenario c.requires.scenario).few_producers in
-            let asked = c.len-5.ensures in
+            let asked = c.len-6.ensures in
             let kept_len = scenario.producers.ok.0 in
             search (arith, rules, long, few, asked, kept_len);
         served = served;
@@ -166,12 +174,20 @@ returns c =
         few_buffers = (scenario_is_set_up scenario c.requires.scenario).few_buffers;
         pass = c.pass-pass.ensures.pass;
         known = subst (λ (v : ServiceView). AreKnownNotes v v.events) known tt;
+        tallied =
+            let many : length scenario.writers.items ≡ length (setup_in table).writers = ap (λ (ws : List WriterSpec). length ws) (sym laid) in
+            subst (λ (letters : List Letter). IsTally (requests_in scenario.lines) (length (setup_in table).writers) letters c.in_ok-tally.tally)
+            (sym (ap (λ (v : ServiceView). v.letters) seen))
+            (subst (λ (n : ℕ). IsTally (requests_in scenario.lines) n [] c.in_ok-tally.tally)
+            (let asked = c.len-3.ensures in let long = scenario.writers.ok.0 in omega (arith, asked, long, many))
+            (subst (λ (n : ℕ). IsTally n c.len-3.result [] c.in_ok-tally.tally) c.count_requests.ensures c.in_ok-tally.ensures));
+        few_requests = requests_fit scenario c.requires.scenario;
         no_seats = c.in_ok-seats.ensures.items;
         room =
             let many = ap (λ (ws : List WriterSpec). length ws) laid in
             let seen = ap (λ (ws : List WriterSpec). length ws) kept in
             let long = c.in_ok-specs.specs.ok.0 in
-            let asked = c.len-3.ensures in
+            let asked = c.len-4.ensures in
             let room = c.in_ok-seats.ensures.capacity in omega (arith, many, seen, long, asked, room);
         buffers = let made = c.in_ok-counts.ensures.buffers in
             let asked = c.len.ensures in let long = scenario.buffers.ok.0 in omega (arith, made, asked, long);
@@ -183,4 +199,5 @@ returns c =
       writers = are_ready scenario c.requires.scenario c.requires.closes table c.fill_writers.new.writers.items laid
           (c.fill_writers.ensures.many ∙ ap length (c.deref-8.ensures.value ∙ kept)) c.fill_writers.ensures.made;
       unread = sym (ap (λ (v : ServiceView). v.events) known);
+      unasked = sym (ap (λ (v : ServiceView). asked_in v.letters) known);
     }

@@ -1,76 +1,37 @@
--- The service is there, and comes back as what the lock's type says of it.
-use Rattle.std.proofs.Common.{◌≡◌, ◌∙◌, Option, IfSome, List, length, refl, sym, ap, subst}
-use Rattle.chunk_words.specs.Sits.{setup_in}
-use Rattle.scenario_text.specs.declared.scenario.NumberedLine.{NumberedLine}
+-- Once the jobs are done each writer answers, with the pass, which knows what it knew.
+use Rattle.std.proofs.Common.{◌≡◌, ◌∙◌, OnErr, OnOk, List, [], ◌∷◌, ◌++◌, length, take, drop, sym, ap, subst}
+use Rattle.trace_model.specs.Calls.{Flushed}
+use Rattle.chunk_plain.specs.Views.{ServiceView, asked_in}
+use Rattle.chunk_words.specs.Sits.{setup_in, known_by_pass}
 use Rattle.scenario_text.specs.Scenario.{parts_of}
+use Rattle.replay_model.specs.Played.{buffers_of}
+use Rattle.run_model.specs.Settled.{last_flushes}
+use Rattle.thread_service.specs.Reading.{IsKnownWhole}
 use Rattle.thread_writer.specs.declared.writer.TraceWriter.{TraceWriter}
-use Rattle.thread_service.specs.declared.service.Service.{Service}
-use Rattle.thread_service.specs.Serving.{view_in}
-use Rattle.thread_host.specs.Growing.{Grows}
-use Rattle.thread_host.specs.Hosts.{AreReadyFrom, IsServed, HavePlayed, HavePlayedFrom}
-use Rattle.run_model.specs.Collected.{CollectedByLines}
-use Rattle.thread_host.proofs.Collected.{grown_collected}
-use Rattle.thread_host.proofs.Growing.{grows_none}
-use Rattle.thread_host.proofs.Hosting.{all_played, given_back, held_of, never_none, ready_from, serves_named}
-use Rattle.thread_host.proofs.Parts.{grown_scraped}
+use Rattle.thread_host.specs.Hosts.{HaveAnswered, HavePlayed}
+use Rattle.thread_host.specs.Jobs.{FailsLines, TellsLines}
+use Rattle.thread_host.proofs.Hosting.{given_back}
 use Rattle.thread_host.proofs.host.Host.run.Goals as goal
 
-pub unreachable-requires : goal.unreachable-requires
-unreachable-requires g c =
-    never_none (IsServed (parts_of c.args.scenario.now) c.args.self.now.table) c.args.self.now.service c.requires.host.served
-    (sym c.take.ensures.value ∙ c.in_default.is)
-
-pub run_named-service-requires-clause-serves : goal.run_named-service-requires-clause-serves
-run_named-service-requires-clause-serves g c κs within =
-    let served = held_of (IsServed (parts_of c.args.scenario.now) c.args.self.now.table) c.args.self.now.service c.in-Some.service c.requires.host.served
-    (sym c.take.ensures.value ∙ c.in-Some.is) in
-    serves_named c.args.self.now.table c.in-Some.service served.serves
-
-pub run_named-service-requires-clause-open : goal.run_named-service-requires-clause-open
-run_named-service-requires-clause-open g c κs within =
-    (held_of (IsServed (parts_of c.args.scenario.now) c.args.self.now.table) c.args.self.now.service c.in-Some.service c.requires.host.served
-    (sym c.take.ensures.value ∙ c.in-Some.is)).opened
-
-pub run_named-service-requires-clause-own : goal.run_named-service-requires-clause-own
-run_named-service-requires-clause-own g c κs within =
-    (held_of (IsServed (parts_of c.args.scenario.now) c.args.self.now.table) c.args.self.now.service c.in-Some.service c.requires.host.served
-    (sym c.take.ensures.value ∙ c.in-Some.is)).own
-
-pub run_named-service-requires-clause-ready : goal.run_named-service-requires-clause-ready
-run_named-service-requires-clause-ready g c κs within =
-    let lines = c.args.scenario.now.lines in
-    let table = c.args.self.now.table in
-    subst (λ (ls : List NumberedLine). AreReadyFrom ls table 0 c.as_mut_slice.result.now) (sym c.by_writers-own.ensures)
-    (subst (AreReadyFrom lines table 0) (sym c.as_mut_slice.ensures.value) (ready_from lines table c.args.writers.now.items c.requires.writers))
-
-pub run_named-service-requires-clause-grows : goal.run_named-service-requires-clause-grows
-run_named-service-requires-clause-grows g c κs within = grows_none (setup_in c.args.self.now.table) c.args.scenario.now.lines (view_in c.in-Some.service)
+pub answer_all-requires-clause-played : goal.answer_all-requires-clause-played
+answer_all-requires-clause-played g c = (
+  c.args.scenario.now.lines,
+  subst (HavePlayed c.args.scenario.now.lines (Flushed ∷ []) c.run_jobs-told.new.self.table) (sym c.as_mut_slice.ensures.value) c.run_jobs-told.ensures.played,
+)
 
 pub returns-clause-host : goal.returns-clause-host
 returns-clause-host g c =
-    let table = c.args.self.now.table in
-    let setup = setup_in table in
-    let host = c.requires.host in
-    let before = c.in-Some.service in
-    let after = c.run_named-service.result.0 in
-    let back = c.run_named-service.ensures in
-    let served = held_of (IsServed (parts_of c.args.scenario.now) table) c.args.self.now.service before host.served (sym c.take.ensures.value ∙ c.in-Some.is) in
-    let collected = held_of (λ (service : Service). CollectedByLines setup c.args.scenario.now.lines (view_in service)) c.args.self.now.service before host.collected
-    (sym c.take.ensures.value ∙ c.in-Some.is) in
+    let host = c.run_jobs-told.ensures.host in
     record {
       laid = host.laid;
       specs = host.specs;
       producers = host.producers;
-      served = record {
-        serves = back.serves table (record { identity = refl; setup_is = refl });
-        opened = back.«open»;
-        began = back.began ∙ served.began;
-        own = back.own;
-        scraped = grown_scraped setup c.args.scenario.now.lines (view_in before) (view_in after) back.grows served.scraped;
-      };
-      collected = grown_collected setup c.args.scenario.now.lines (view_in before) (view_in after) back.grows collected;
-      pass = back.pass;
-      known = back.known;
+      served = host.served;
+      collected = host.collected;
+      pass = c.answer_all.ensures.pass;
+      known = subst IsKnownWhole (sym c.answer_all.ensures.known) host.known;
+      tallied = host.tallied;
+      few_requests = host.few_requests;
       no_seats = host.no_seats;
       room = host.room;
       few_buffers = host.few_buffers;
@@ -79,20 +40,44 @@ returns-clause-host g c =
       flushes = host.flushes;
     }
 
-pub returns-clause-grows : goal.returns-clause-grows
-returns-clause-grows g c =
-    let setup = setup_in c.args.self.now.table in
-    let after = view_in c.run_named-service.result.0 in
-    subst (λ (o : Option Service). IfSome o (λ before. Grows setup c.args.scenario.now.lines (view_in before) after)) (sym (sym c.take.ensures.value ∙ c.in-Some.is))
-    c.run_named-service.ensures.grows
-
 pub returns-clause-played : goal.returns-clause-played
 returns-clause-played g c =
-    let table = c.args.self.now.table in
+    let table = c.run_jobs-told.new.self.table in
+    let old = c.run_jobs-told.new.writers in
     let lent : List TraceWriter = c.as_mut_slice.result.now in
-    let new : List TraceWriter = c.run_named-service.new.writers in
-    let whole : length lent ≡ length c.args.writers.now.items = ap (λ (ws : List TraceWriter). length ws) c.as_mut_slice.ensures.value in
-    let played = c.run_named-service.ensures.played in
-    subst (HavePlayed c.args.scenario.now.lines table) (sym (given_back new c.args.writers.now.items c.args.writers.now.len (played.many ∙ c.as_mut_slice.ensures.len)))
-    (all_played c.args.scenario.now.lines table lent new (whole ∙ c.requires.writers.many)
-    (subst (λ (lines : List NumberedLine). HavePlayedFrom lines table 0 lent new) c.by_writers-own.ensures played))
+    let new : List TraceWriter = c.answer_all.new.writers in
+    let whole : length lent ≡ length old.items = ap (λ (ws : List TraceWriter). length ws) c.as_mut_slice.ensures.value in
+    let played = c.answer_all.ensures.played c.args.scenario.now.lines
+    (subst (HavePlayed c.args.scenario.now.lines (Flushed ∷ []) table) (sym c.as_mut_slice.ensures.value) c.run_jobs-told.ensures.played) in
+    subst (HavePlayed c.args.scenario.now.lines last_flushes table) (sym (given_back new old.items old.len (played.many ∙ sym c.run_jobs-told.ensures.played.many ∙ sym whole ∙ c.as_mut_slice.ensures.len)))
+    played
+
+pub returns-clause-answered : goal.returns-clause-answered
+returns-clause-answered g c =
+    let table = c.run_jobs-told.new.self.table in
+    let old = c.run_jobs-told.new.writers in
+    let lent : List TraceWriter = c.as_mut_slice.result.now in
+    let new : List TraceWriter = c.answer_all.new.writers in
+    let whole : length lent ≡ length old.items = ap (λ (ws : List TraceWriter). length ws) c.as_mut_slice.ensures.value in
+    let played = c.answer_all.ensures.played c.args.scenario.now.lines
+    (subst (HavePlayed c.args.scenario.now.lines (Flushed ∷ []) table) (sym c.as_mut_slice.ensures.value) c.run_jobs-told.ensures.played) in
+    let whole_again = given_back new old.items old.len (played.many ∙ sym c.run_jobs-told.ensures.played.many ∙ sym whole ∙ c.as_mut_slice.ensures.len) in
+    subst (λ (v : ServiceView). HaveAnswered (asked_in v.letters) (take old.len (new ++ drop (length new) old.items))) (sym c.answer_all.ensures.known)
+    (subst (HaveAnswered (asked_in (known_by_pass c.run_jobs-told.new.self.pass).letters)) (sym whole_again) c.answer_all.ensures.answered)
+
+-- the pass knows what it knew behind the jobs
+pub returns-clause-told : goal.returns-clause-told
+returns-clause-told g c =
+    let setup = setup_in c.args.self.now.table in
+    let lines = c.args.scenario.now.lines in
+    let first = known_by_pass c.args.self.now.pass in
+    subst (λ (v : ServiceView). OnOk c.run_jobs-told.result (TellsLines setup (buffers_of (parts_of c.args.scenario.now) setup) lines first v
+    (g.T.Sink.taken c.args.out.now) (g.T.Sink.taken c.run_jobs-told.new.out))) (sym c.answer_all.ensures.known) c.run_jobs-told.ensures.told
+
+pub returns-clause-fails : goal.returns-clause-fails
+returns-clause-fails g c =
+    let setup = setup_in c.args.self.now.table in
+    let lines = c.args.scenario.now.lines in
+    let first = known_by_pass c.args.self.now.pass in
+    subst (λ (v : ServiceView). OnErr c.run_jobs-told.result (FailsLines setup (buffers_of (parts_of c.args.scenario.now) setup) lines first v
+    (g.T.Sink.taken c.args.out.now) (g.T.Sink.taken c.run_jobs-told.new.out))) (sym c.answer_all.ensures.known) c.run_jobs-told.ensures.fails

@@ -1,7 +1,11 @@
-use Rattle.std.proofs.Common.{rules, subst}
+use Rattle.std.proofs.Common.{◌∙◌, ◌≤◌, List, length, rules, sym, ap, subst}
 use Rattle.chunk_plain.specs.Setup.{Setup}
 use Rattle.service_core.specs.Taking.{Takes, places_of}
 use Rattle.thread_service.specs.Serving.{view_in}
+use Rattle.chunk_plain.specs.Views.{Letter, asked_in}
+use Rattle.session_core.specs.Sessions.{SessionValue}
+use Rattle.replay_model.specs.Flushes.{requests_in}
+use Rattle.thread_host.specs.Tally.{IsTally}
 use Rattle.thread_host.proofs.Growing.{collect_grows}
 use Rattle.thread_host.proofs.Hosting.{collect_own}
 use Rattle.thread_host.proofs.locked.Locked.collect.Goals as goal
@@ -20,4 +24,8 @@ invariant_of-self g c = record {
       collect_grows g.N.HostName.setup g.N.HostName.lines c.args.producer c.collect.result start old new c.requires.asked
       (subst (λ (s : Setup). Takes s (places_of c.args.producer 0 s.writers) c.collect.result old new) setup_is c.collect.ensures.takes)
       c.args.self.now.grows;
+  started = ap (λ (s : SessionValue). s.state) c.collect.ensures.keeps.fields.session ∙ c.args.self.now.started;
+  few = subst (λ (l : List Letter). asked_in l ≤ requests_in g.N.HostName.lines) (sym c.collect.ensures.letters) c.args.self.now.few;
+  tallied = subst (λ (l : List Letter). IsTally (requests_in g.N.HostName.lines) (length g.N.HostName.setup.writers) l c.args.self.now.tally)
+      (sym c.collect.ensures.letters) c.args.self.now.tallied;
 }

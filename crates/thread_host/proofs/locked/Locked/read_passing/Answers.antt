@@ -1,10 +1,14 @@
-use Rattle.std.proofs.Common.{rules, ◌∙◌, IfOk, OnErr, ap, subst}
+use Rattle.std.proofs.Common.{rules, ◌∙◌, ◌≤◌, IfOk, OnErr, List, length, sym, ap, subst}
 use Rattle.chunk_plain.specs.Setup.{Setup}
 use Rattle.chunk_words.specs.Sits.{setup_in, known_by_pass}
 use Rattle.scenario_text.specs.declared.scenario.LineKind.TheVariants as line
 use Rattle.service_core.specs.Agreement.{first_of}
 use Rattle.thread_service.specs.Serving.{core_of, view_in}
 use Rattle.thread_host.specs.Jobs.{FailsLine, TellsLine}
+use Rattle.chunk_plain.specs.Views.{Letter, asked_in}
+use Rattle.session_core.specs.Sessions.{SessionValue}
+use Rattle.replay_model.specs.Flushes.{requests_in}
+use Rattle.thread_host.specs.Tally.{IsTally}
 use Rattle.thread_host.proofs.Growing.{read_grows}
 use Rattle.thread_host.proofs.Telling.{locked_fails, locked_tells}
 use Rattle.thread_host.proofs.locked.Locked.read_passing.Goals as goal
@@ -19,7 +23,7 @@ returns-clause-told g c =
     setup_is
     (locked_tells (setup_in c.args.table.now) core c.args.buffer c.args.limit (view_in c.args.self.now.service) (view_in c.read_passing.new.self)
     passed pass before after g.N.HostName.first (ap (λ (setup : Setup). first_of setup core) setup_is ∙ c.args.self.now.began)
-    c.read_passing.result c.read_passing.ensures.reads c.read_passing.ensures.passes)
+    c.read_passing.result c.read_passing.ensures.reads c.read_passing.ensures.passes c.read_passing.ensures.asked)
 
 pub returns-clause-torn : goal.returns-clause-torn
 returns-clause-torn g c =
@@ -45,4 +49,8 @@ invariant_of-self g c = record {
       let before = g.O.Sink.taken c.args.out.now in let after = g.O.Sink.taken c.read_passing.new.out in
       read_grows g.N.HostName.setup (setup_in c.args.table.now) g.N.HostName.lines core c.args.buffer c.args.limit g.N.HostName.start old new before after c.read_passing.result
       c.read_passing.ensures.reads c.read_passing.ensures.fails c.args.self.now.grows;
+  started = ap (λ (s : SessionValue). s.state) c.read_passing.ensures.keeps.fields.session ∙ c.args.self.now.started;
+  few = subst (λ (l : List Letter). asked_in l ≤ requests_in g.N.HostName.lines) (sym c.read_passing.ensures.letters) c.args.self.now.few;
+  tallied = subst (λ (l : List Letter). IsTally (requests_in g.N.HostName.lines) (length g.N.HostName.setup.writers) l c.args.self.now.tally)
+      (sym c.read_passing.ensures.letters) c.args.self.now.tallied;
 }

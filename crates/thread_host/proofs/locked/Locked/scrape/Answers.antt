@@ -1,7 +1,11 @@
-use Rattle.std.proofs.Common.{rules, subst}
+use Rattle.std.proofs.Common.{◌∙◌, ◌≤◌, List, length, rules, sym, ap, subst}
 use Rattle.chunk_plain.specs.Setup.{Setup}
 use Rattle.service_core.specs.Scraping.{TakesAndScrapes}
 use Rattle.thread_service.specs.Serving.{view_in}
+use Rattle.chunk_plain.specs.Views.{Letter, asked_in}
+use Rattle.session_core.specs.Sessions.{SessionValue}
+use Rattle.replay_model.specs.Flushes.{requests_in}
+use Rattle.thread_host.specs.Tally.{IsTally}
 use Rattle.thread_host.proofs.Growing.{scrape_grows}
 use Rattle.thread_host.proofs.Hosting.{scrape_own}
 use Rattle.thread_host.proofs.locked.Locked.scrape.Goals as goal
@@ -20,4 +24,8 @@ invariant_of-self g c = record {
       scrape_grows g.N.HostName.setup g.N.HostName.lines c.args.producer c.scrape.result start old new c.requires.line
       (subst (λ (s : Setup). TakesAndScrapes s c.args.producer c.scrape.result old new) setup_is c.scrape.ensures.scrapes)
       c.args.self.now.grows;
+  started = ap (λ (s : SessionValue). s.state) c.scrape.ensures.keeps.fields.session ∙ c.args.self.now.started;
+  few = subst (λ (l : List Letter). asked_in l ≤ requests_in g.N.HostName.lines) (sym c.scrape.ensures.letters) c.args.self.now.few;
+  tallied = subst (λ (l : List Letter). IsTally (requests_in g.N.HostName.lines) (length g.N.HostName.setup.writers) l c.args.self.now.tally)
+      (sym c.scrape.ensures.letters) c.args.self.now.tallied;
 }

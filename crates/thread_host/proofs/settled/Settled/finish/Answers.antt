@@ -1,5 +1,5 @@
 -- The end of a settled run is a run of the scenario.
-use Rattle.std.proofs.Common.{◌≡◌, ◌∙◌, List, length, sym, ap, subst, arith}
+use Rattle.std.proofs.Common.{◌≡◌, ◌∙◌, List, length, refl, sym, ap, subst, arith}
 use Rattle.std.specs.Prelude.{slice_index_or}
 use Rattle.std.specs.Vec.{with_items}
 use Rattle.std.proofs.lemmas.List.{length-map, with_items_is}
@@ -98,7 +98,7 @@ returns-in-Ok-clause-done g c scenario is =
     ap (λ (xs : List SequenceCounts). slice_index_or xs place no_counts) same
     ∙ c.count_sequences.ensures.each table serves place (omega (arith, inside, wide, long))
     ∙ ap (λ (xs : List SequenceCounts). packets_in setup final place (slice_index_or xs place no_counts)) c.deref_mut-in-Ok.ensures.value)
-    is.flushes
+    refl
 
 pub take_apart-requires-in-Err-clause-seats : goal.take_apart-requires-in-Err-clause-seats
 take_apart-requires-in-Err-clause-seats g c =

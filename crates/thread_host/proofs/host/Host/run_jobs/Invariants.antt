@@ -3,7 +3,7 @@ use Rattle.chunk_words.specs.Named.{identity_of}
 use Rattle.chunk_words.specs.Sits.{setup_in}
 use Rattle.service_core.specs.Agreement.{first_of}
 use Rattle.thread_service.specs.Serving.{core_of, view_in}
-use Rattle.thread_host.proofs.host.Host.run.Given as goal
+use Rattle.thread_host.proofs.host.Host.run_jobs.Given as goal
 
 abbrev pub ghosts-run_named-N-HostName : goal.ghosts-run_named-N-HostName
 ghosts-run_named-N-HostName g a = record {
@@ -16,3 +16,6 @@ ghosts-run_named-N-HostName g a = record {
 
 abbrev pub ghosts-run_named-L-Ledger : goal.ghosts-run_named-L-Ledger
 ghosts-run_named-L-Ledger g a = record { name = a.takings.name; parts = a.takings.parts }
+
+abbrev pub ghosts-run_named-K-Ledger : goal.ghosts-run_named-K-Ledger
+ghosts-run_named-K-Ledger g a = record { name = a.readings.name; parts = a.readings.parts }

@@ -1,0 +1,86 @@
+-- An answer that is newer goes to the session and into the tally; any other changes neither.
+use Rattle.std.proofs.Common.{◌∙◌, ℕ, ◌+◌, ◌-◌, ◌^◌, ◌<◌, length, sym, ap, subst, arith}
+use Rattle.session_core.specs.States.{answered_as}
+use Rattle.chunk_plain.specs.Views.{ServiceView}
+use Rattle.chunk_words.specs.Sits.{desk_by_service, known_by_service, setup_in}
+use Rattle.thread_service.specs.Serving.{core_of, view_in, desk_in}
+use Rattle.thread_host.specs.Tally.{IsTally}
+use Rattle.thread_host.proofs.ReadAnswers.{accepted, heard_of, heard_once, heard_view, none_newer, only_session, only_taking, session_acknowledged, session_both, taking_on}
+use Rattle.thread_host.proofs.TallyLemmas.{tally_again}
+use Rattle.thread_host.proofs.reading.read_answer.Goals as goal
+
+pub is_newer-requires : goal.is_newer-requires
+is_newer-requires c = let many = c.requires.tally.1.many in let inside = c.requires.place in omega (arith, many, inside)
+
+-- a started session refuses no answer to a request that was made
+pub unreachable-requires : goal.unreachable-requires
+unreachable-requires c =
+    let flush = c.answer_of-flush.result.0 in
+    let session = only_session (core_of c.args.service.now) (core_of c.answer_of-flush.new.self) c.answer_of-flush.ensures.only in
+    let low = c.answer_of-flush.ensures.asked in let same = session.requests in
+    let newer = c.is_newer.ensures.0 c.if-is_newer.true in
+    let none = accepted (core_of c.answer_of-flush.new.self).session flush (session.state ∙ c.requires.started) (omega (arith, newer)) (omega (arith, low, same)) in
+    absurd (let wrong = sym c.in-Err.is ∙ c.acknowledge.ensures.answer ∙ ap (λ o. answered_as o tt) none in cc)
+
+pub add-requires-clause-tally : goal.add-requires-clause-tally
+add-requires-clause-tally c = (c.requires.tally.0, length (setup_in c.args.table.now).writers, (view_in c.args.service.now).letters, c.requires.tally.1)
+
+pub add-requires-clause-place : goal.add-requires-clause-place
+add-requires-clause-place c = let many = c.requires.tally.1.many in let inside = c.requires.place in omega (arith, many, inside)
+
+pub add-requires-clause-room : goal.add-requires-clause-room
+add-requires-clause-room c =
+    let low = c.answer_of-flush.ensures.asked in let made = c.requires.serves.asked in let room = c.requires.room in omega (arith, low, made, room)
+
+pub add-requires-clause-newer : goal.add-requires-clause-newer
+add-requires-clause-newer c = c.is_newer.ensures.0 c.if-is_newer.true
+
+pub returns-in-Ok : goal.returns-in-Ok
+returns-in-Ok c =
+    let old = c.args.service.now in let mid = c.answer_of-flush.new.self in let new = c.acknowledge.new.self in
+    let flush = c.answer_of-flush.result.0 in let chunks = c.answer_of-flush.result.1 in
+    let place : ℕ = c.args.place in
+    let gave = c.answer_of-flush.ensures in let took = c.acknowledge.ensures in
+    let session = only_session (core_of old) (core_of mid) gave.only in
+    let low = gave.asked in let same = session.requests in let made = c.requires.serves.asked in
+    let newer = c.is_newer.ensures.0 c.if-is_newer.true in
+    let none = accepted (core_of mid).session flush (session.state ∙ c.requires.started) (omega (arith, newer)) (omega (arith, low, same)) in
+    let view = ap known_by_service took.keeps.seat ∙ gave.view in
+    let desk = ap desk_by_service took.keeps.seat ∙ gave.desk in
+    let hears = heard_once (view_in old) (view_in new) place (place + 1) flush chunks (omega arith) view in
+    record {
+      serves = took.serves c.args.table.now gave.serves;
+      hears = hears;
+      desk = desk;
+      keeps = taking_on (core_of old) (core_of mid) (core_of new) (only_taking (core_of old) (core_of mid) gave.only) took.keeps;
+      session = session_both (core_of old).session (core_of mid).session (core_of new).session session
+          (session_acknowledged (core_of mid).session (core_of new).session flush (place + 1 - 1) (record { flush = flush; chunks = chunks }) none took.after);
+      tally = λ requests tally. subst (λ (v : ServiceView). IsTally requests (length (setup_in c.args.table.now).writers) v.letters c.add.new.self)
+          (sym (heard_view (view_in old) (view_in new) place (place + 1) flush chunks (omega arith) view))
+          (c.add.ensures.tally requests (length (setup_in c.args.table.now).writers) (view_in old).letters tally);
+      heard = heard_of (view_in old) (view_in new) (desk_in old) (desk_in new) place (place + 1) flush chunks (omega arith) view (omega (arith, low, made)) desk gave.told;
+    }
+
+pub returns-else-is_newer : goal.returns-else-is_newer
+returns-else-is_newer c =
+    let old = c.args.service.now in let new = c.answer_of-flush.new.self in
+    let flush = c.answer_of-flush.result.0 in let chunks = c.answer_of-flush.result.1 in
+    let place : ℕ = c.args.place in
+    let gave = c.answer_of-flush.ensures in
+    let low = gave.asked in let made = c.requires.serves.asked in
+    let hears = heard_once (view_in old) (view_in new) place (place + 1) flush chunks (omega arith) gave.view in
+    record {
+      serves = gave.serves;
+      hears = hears;
+      desk = gave.desk;
+      keeps = only_taking (core_of old) (core_of new) gave.only;
+      session = only_session (core_of old) (core_of new) gave.only;
+      tally = λ requests tally.
+          let read = tally.answered place c.requires.place in
+          let older = none_newer _ flush c.is_newer.result c.is_newer.ensures.1 c.if-is_newer.false in
+          let fits : chunks < 2 ^ 32 = omega arith in
+          subst (λ (v : ServiceView). IsTally requests (length (setup_in c.args.table.now).writers) v.letters c.args.tally.now)
+          (sym (heard_view (view_in old) (view_in new) place (place + 1) flush chunks (omega arith) gave.view))
+          (tally_again requests (length (setup_in c.args.table.now).writers) place flush chunks (view_in old).letters c.args.tally.now (omega (arith, read, older)) fits tally);
+      heard = heard_of (view_in old) (view_in new) (desk_in old) (desk_in new) place (place + 1) flush chunks (omega arith) gave.view (omega (arith, low, made)) gave.desk gave.told;
+    }

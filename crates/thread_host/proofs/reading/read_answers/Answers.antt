@@ -1,0 +1,60 @@
+-- Each writer's answer is read behind those before it.
+use Rattle.std.proofs.Common.{◌∙◌, refl, sym, subst, inl, inr, arith}
+use Rattle.std.proofs.lemmas.Bool.{cases_eq}
+use Rattle.thread_service.specs.Serving.{core_of, view_in, desk_in}
+use Rattle.thread_host.specs.Tally.{HearsOf}
+use Rattle.thread_host.proofs.ReadAnswers.{heard_stays, hears_asked, hears_both, hears_none, only_taking, session_both, taking_both}
+use Rattle.thread_host.proofs.reading.read_answers.Goals as goal
+
+pub writers-init : goal.writers-init
+writers-init c = record {
+  serves = c.requires.serves;
+  hears = hears_none (view_in c.args.service.now);
+  desk = refl;
+  keeps = only_taking (core_of c.args.service.now) (core_of c.args.service.now) refl;
+  session = record { state = refl; writers = refl; requests = refl };
+  tally = λ requests tally. tally;
+  heard = λ place below. absurd (omega (arith, below));
+}
+
+pub read_answer-requires-clause-started : goal.read_answer-requires-clause-started
+read_answer-requires-clause-started c = c.writers.invariant.session.state ∙ c.requires.started
+
+pub read_answer-requires-clause-tally : goal.read_answer-requires-clause-tally
+read_answer-requires-clause-tally c = (c.requires.tally.0, c.writers.invariant.tally c.requires.tally.0 c.requires.tally.1)
+
+pub read_answer-requires-clause-room : goal.read_answer-requires-clause-room
+read_answer-requires-clause-room c =
+    let asked = hears_asked (view_in c.args.service.now) (view_in c.writers.service) c.writers.invariant.hears in
+    let room = c.requires.room in
+    let rows = c.requires.tally.1.rows in
+    let now = (c.writers.invariant.tally c.requires.tally.0 c.requires.tally.1).rows in
+    omega (arith, asked, room, rows, now)
+
+pub read_answer-requires-clause-place : goal.read_answer-requires-clause-place
+read_answer-requires-clause-place c =
+    let many = c.requires.tally.1.many in let long = c.len-place-end.ensures in let below = c.writers-test.true in
+    omega (arith, many, long, below)
+
+pub writers-preserved : goal.writers-preserved
+writers-preserved c =
+    let i = c.writers.invariant in
+    let reads = c.read_answer.ensures in
+    let first = c.args.service.now in let old = c.writers.service in let new = c.read_answer.new.service in
+    record {
+      serves = reads.serves;
+      hears = hears_both (view_in first) (view_in old) (view_in new) i.hears reads.hears;
+      desk = reads.desk ∙ i.desk;
+      keeps = taking_both (core_of first) (core_of old) (core_of new) i.keeps reads.keeps;
+      session = session_both (core_of first).session (core_of old).session (core_of new).session i.session reads.session;
+      tally = λ requests tally. reads.tally requests (i.tally requests tally);
+      heard = λ place below. elim (cases_eq place c.writers.place) [
+        | inl is ↦ subst (HearsOf (view_in new) (desk_in new)) (sym is) reads.heard
+        | inr apart ↦ heard_stays (view_in old) (view_in new) (desk_in old) (desk_in new) place reads.hears reads.desk (i.heard place (omega (arith, below, apart)))
+      ];
+    }
+
+pub returns-clause-heard : goal.returns-clause-heard
+returns-clause-heard c place inside =
+    let many = c.requires.tally.1.many in let long = c.len-place-end.ensures in let out = c.writers-test.false in
+    c.writers.invariant.heard place (omega (arith, inside, many, long, out))
