@@ -107,6 +107,98 @@ fn the_trace_follows_the_order_of_the_claims(rt: HostRuntime) -> Result<(), Fail
     Ok(())
 }
 
+const REQUESTED: &[u8] = b"buffer 64 ring\nproducer 1 4096 14\nwriter 1 1 drop\np 1 8:1\nq\n";
+
+const ANSWERED_BEFORE: &[u8] =
+    b"buffer 1 ring bytes 65536 placed 1 rewritten 0 overwritten 0 discarded 0 unpatched 0 padding 0\nsequence 2 begun 1 delivered 1 dropped 0 overwritten 0 discarded 0 cut 0\nflush 1 chunks 0\n";
+
+const ANSWERED_BEHIND: &[u8] =
+    b"buffer 1 ring bytes 65536 placed 1 rewritten 0 overwritten 0 discarded 0 unpatched 0 padding 0\nsequence 2 begun 1 delivered 1 dropped 0 overwritten 0 discarded 0 cut 0\nflush 1 chunks 1\n";
+
+#[test]
+fn a_request_is_answered_before_a_line_or_at_the_end(rt: HostRuntime) -> Result<(), Fail> {
+    // The writer comes to its line once the request is made, and answers before it.
+    let gate = Hold::new(Place { job: 1, line: 1 }, Place { job: 0, line: 2 });
+    let ran = run(&rt, REQUESTED.to_vec(rt.alloc())?, &gate)?;
+    assert_eq!(rt; ran.status, 0);
+    assert_eq!(rt; gate.ran_out.load(Ordering::SeqCst), 0);
+    assert_eq!(rt;
+        ran.trace.taken(),
+        b"\x0A\x07\x40\x01\x50\x02\xD0\x02\x01".as_slice()
+    );
+    assert_eq!(rt; ran.text.taken(), ANSWERED_BEFORE);
+    // The request is made once the writer has played its line.
+    let gate = Hold::new(Place { job: 0, line: 1 }, Place { job: 1, line: 2 });
+    let ran = run(&rt, REQUESTED.to_vec(rt.alloc())?, &gate)?;
+    assert_eq!(rt; ran.status, 0);
+    assert_eq!(rt; gate.ran_out.load(Ordering::SeqCst), 0);
+    assert_eq!(rt;
+        ran.trace.taken(),
+        b"\x0A\x07\x40\x01\x50\x02\xD0\x02\x01".as_slice()
+    );
+    assert_eq!(rt; ran.text.taken(), ANSWERED_BEHIND);
+    Ok(())
+}
+
+const REQUESTED_INSIDE: &[u8] =
+    b"buffer 64 ring\nproducer 1 4096 14\nwriter 1 1 drop\nb 1\na 1 8:1\nq\ne 1\np 1 8:2\n";
+
+const ANSWERED_BETWEEN: &[u8] =
+    b"buffer 1 ring bytes 65536 placed 2 rewritten 0 overwritten 0 discarded 0 unpatched 0 padding 0\nsequence 2 begun 2 delivered 2 dropped 0 overwritten 0 discarded 0 cut 0\nflush 1 chunks 1\n";
+
+#[test]
+fn a_writer_answers_between_two_packets(rt: HostRuntime) -> Result<(), Fail> {
+    // The request is made while the packet is begun: its writer answers before the next one.
+    let gate = Hold::new(Place { job: 1, line: 2 }, Place { job: 0, line: 2 });
+    let ran = run(&rt, REQUESTED_INSIDE.to_vec(rt.alloc())?, &gate)?;
+    assert_eq!(rt; ran.status, 0);
+    assert_eq!(rt; gate.ran_out.load(Ordering::SeqCst), 0);
+    assert_eq!(rt; ran.text.taken(), ANSWERED_BETWEEN);
+    Ok(())
+}
+
+const REQUESTED_TWICE: &[u8] =
+    b"buffer 64 ring\nproducer 1 4096 14\nwriter 1 1 drop\np 1 8:1\nq\nq\nr 1\np 1 8:2\n";
+
+const ANSWERED_APART: &[u8] =
+    b"buffer 1 ring bytes 65536 placed 2 rewritten 0 overwritten 0 discarded 0 unpatched 0 padding 0\nsequence 2 begun 2 delivered 2 dropped 0 overwritten 0 discarded 0 cut 0\nflush 1 chunks 1\nflush 2 chunks 2\n";
+
+#[test]
+fn the_first_answer_that_was_read_counts(rt: HostRuntime) -> Result<(), Fail> {
+    // The first request is made behind the first packet. The writer answers it before its second packet, and the second request, which is
+    // made behind that packet, at the end.
+    let gate = Three {
+        first: Hold::new(Place { job: 0, line: 1 }, Place { job: 1, line: 2 }),
+        second: Hold::new(Place { job: 1, line: 2 }, Place { job: 0, line: 2 }),
+        third: Hold::new(Place { job: 0, line: 2 }, Place { job: 1, line: 3 }),
+    };
+    let ran = run(&rt, REQUESTED_TWICE.to_vec(rt.alloc())?, &gate)?;
+    assert_eq!(rt; ran.status, 0);
+    assert_eq!(rt; gate.first.ran_out.load(Ordering::SeqCst), 0);
+    assert_eq!(rt; gate.second.ran_out.load(Ordering::SeqCst), 0);
+    assert_eq!(rt; gate.third.ran_out.load(Ordering::SeqCst), 0);
+    assert_eq!(rt; ran.text.taken(), ANSWERED_APART);
+    Ok(())
+}
+
+const ANSWERED_ONCE: &[u8] =
+    b"buffer 1 ring bytes 65536 placed 2 rewritten 0 overwritten 0 discarded 0 unpatched 0 padding 0\nsequence 2 begun 2 delivered 2 dropped 0 overwritten 0 discarded 0 cut 0\nflush 1 chunks 1\nflush 2 chunks 1\n";
+
+#[test]
+fn one_answer_is_to_all_requests_so_far(rt: HostRuntime) -> Result<(), Fail> {
+    // Both requests are made between the two packets, and the writer answers the second one alone.
+    let gate = Both {
+        first: Hold::new(Place { job: 0, line: 1 }, Place { job: 1, line: 2 }),
+        second: Hold::new(Place { job: 1, line: 2 }, Place { job: 0, line: 3 }),
+    };
+    let ran = run(&rt, REQUESTED_TWICE.to_vec(rt.alloc())?, &gate)?;
+    assert_eq!(rt; ran.status, 0);
+    assert_eq!(rt; gate.first.ran_out.load(Ordering::SeqCst), 0);
+    assert_eq!(rt; gate.second.ran_out.load(Ordering::SeqCst), 0);
+    assert_eq!(rt; ran.text.taken(), ANSWERED_ONCE);
+    Ok(())
+}
+
 const SCRAPED: &[u8] =
     b"buffer 64 ring\nproducer 1 4096 14\nwriter 1 1 drop\np 1 8:1\nb 1\na 1 8:2\ns 1\nr 1\ne 1\n";
 

@@ -446,7 +446,7 @@ static COMMANDS: [Command; 16] = [
         trace: b"",
         text: b"",
     },
-    // Lines that aren't for threads: the first one counts, and a fault of the grammar before all.
+    // Lines that aren't for threads: the first one counts, a flush request isn't one, and a fault of the grammar comes before all.
     Command {
         line: "run",
         input: b"buffer 64 ring\nproducer 1 4096 14\nwriter 1 1 drop\nx 1\n",
@@ -459,7 +459,7 @@ static COMMANDS: [Command; 16] = [
         input: b"buffer 64 ring\nproducer 1 4096 14\nwriter 1 1 drop\np 1 8:5\nq\nx 1\n",
         status: 3,
         trace: b"",
-        text: b"line 5: not built\n",
+        text: b"line 6: not under run\n",
     },
     Command {
         line: "run",

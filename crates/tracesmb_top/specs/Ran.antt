@@ -4,7 +4,7 @@ use Rattle.byte_io.specs.Bytes.{Intake, after_told, IsGrown, TakesPart}
 use Rattle.loss_report.specs.declared.counts.Done.{Done}
 use Rattle.scenario_text.specs.declared.reason.Reason.{Reason}
 use Rattle.scenario_text.specs.declared.scenario.LineKind.{LineKind}
-use Rattle.scenario_text.specs.declared.scenario.LineKind.TheVariants.{Close, Request}
+use Rattle.scenario_text.specs.declared.scenario.LineKind.TheVariants.{Close}
 use Rattle.scenario_text.specs.declared.scenario.NumberedLine.{NumberedLine}
 use Rattle.scenario_text.specs.Scenario.{Parts, scenario_of}
 use Rattle.scenario_text.specs.Texts.{refusal_line}
@@ -15,10 +15,9 @@ use Rattle.thread_host.specs.Finishing.{HasRun}
 
 -- ---- which scenarios aren't for threads
 
--- why a line isn't one for threads: a close would come in no order with what is written; and flush requests aren't answered on threads yet
+-- why a line isn't one for threads: a close would come in no order with what is written
 unfoldable pub unfit_words : LineKind → Option (List ℕ)
 unfit_words (Close producer) = Some (codes "not under run")
-unfit_words Request = Some (codes "not built")
 unfit_words other = None
 
 -- `line L: REASON`, with its line feed

@@ -30,7 +30,6 @@ fn line_unfit(line: u32, what: &LineKind<'_>) -> Option<ArrayVec<u8, 64>>
 {
     match what {
         LineKind::Close { producer: _ } => Some(unfit_line(line, b"not under run")),
-        LineKind::Request => Some(unfit_line(line, b"not built")),
         _ => None,
     }
 }
