@@ -40,7 +40,7 @@ from model.scenario import Refused, read_scenario   # noqa: E402
 from model.tracefile import BadTrace, read_trace    # noqa: E402
 
 MOST_SECONDS = 120
-LIVELY = 'csr'              # the service's lines that `run` plays
+LIVELY = 'csrq'             # the service's lines that `run` plays
 
 
 def made_replay(seed, tries):
@@ -89,7 +89,7 @@ def made_settled(seed, tries):
 
 
 def made_run(seed, tries):
-    return ['run'], inputs.scenario(seed, tries, LIVELY if seed % 10 else LIVELY + 'xq')
+    return ['run'], inputs.scenario(seed, tries, LIVELY if seed % 10 else LIVELY + 'x')
 
 
 def made_tune(seed, _):
@@ -130,7 +130,20 @@ def faults_of_run(data: bytes, found: Answer, model: Answer) -> list[str]:
             faults.append(f'the line does not add up: {line}')
         if counts['delivered'] != delivered[counts['sequence']]:
             faults.append(f'the trace has {delivered[counts["sequence"]]} records: {line}')
-    return faults if len(lines) == len(begun) else [*faults, 'lines of the report are missing']
+    return [*faults, *faults_of_flushes(found, model)] if len(lines) == len(begun) else [*faults, 'lines of the report are missing']
+
+
+def flush_lines(answer: Answer) -> list[list[str]]:
+    return [line.split() for line in answer.text.decode(errors='replace').splitlines() if line.startswith('flush')]
+
+
+def faults_of_flushes(found: Answer, model: Answer) -> list[str]:
+    """A line for each request; a writer never answers a later one with fewer chunks."""
+    lines, others = flush_lines(found), flush_lines(model)
+    if [line[:3] for line in lines] != [line[:3] for line in others]:
+        return ['other lines of flush requests']
+    sums = [int(line[3]) for line in lines]
+    return [] if sums == sorted(sums) else [f'the chunks of flush requests fall: {sums}']
 
 
 def faults_of_tune(words: list[str], found: Answer, model: Answer) -> list[str]:

@@ -154,7 +154,6 @@ def refusal_rows():
     yield refused('buffer 4 ring / producer 1 8192 1 / writer 1 1 drop', 'chunk larger than buffer')
     yield refused(SET + ' / p 1 1:"x"*1048572' * 257, 'too many bytes')
     yield refused(SET + ' / x 1', 'not under run', 'run')
-    yield refused(SET + ' / q', 'not built', 'run')
 
 
 def command_rows():

@@ -13,7 +13,7 @@ from model.scenario import Line, Refused, Scenario, read_scenario
 from model.service import Service
 from model.writers import Writer
 
-NOT_PLAYED = {'x': 'not under run', 'q': 'not built'}
+NOT_PLAYED = {'x': 'not under run'}
 SERVICE = 0                 # the service's job; a writer's has its number
 
 
@@ -50,19 +50,38 @@ class Jobs:
         self.waiting.append(job)
         line = self.lines[job].pop(0) if self.lines[job] else None
         if job == SERVICE:
-            self.records += play_of_service(self.service, line) if line else []
+            self.play_of_service(line)
         elif line:
+            self.service.poll(self.service.writers[job - 1])
             play_of_writer(self.service.writers[job - 1], line)
         else:
             self.service.writers[job - 1].flush()
         self.done[job] = line is None
         self.waiting.remove(job)
 
+    def play_of_service(self, line: Line | None) -> None:
+        """A line of the service, before which it reads its writers' answers."""
+        if not line:
+            return
+        self.service.read_answers()
+        if line.kind == 'q':
+            self.service.note_request()
+        else:
+            self.records += play_of_service(self.service, line)
+
+    def answer_at_end(self) -> None:
+        """Each writer flushes and answers the last request, and the service reads what it answered."""
+        for writer in self.service.writers:
+            writer.flush()
+            self.service.poll(writer)
+        self.service.read_answers()
+
 
 def play(scenario: Scenario, order: int) -> Answer:
     jobs = Jobs(scenario, order)
     while jobs.ready():
         jobs.step()
+    jobs.answer_at_end()
     jobs.records += jobs.service.finish()
     return Answer(0, b''.join(jobs.records), report_of(jobs.service))
 

@@ -34,6 +34,7 @@ class Service:
         self.taken = [0] * len(self.writers)        # chunks of each writer
         self.closed: set[int] = set()               # producers
         self.requests: list[Request] = []
+        self.given: dict[int, tuple[int, int]] = {}     # of a writer of `run` its last answer: the request's number, and its chunks
 
     def make_writer(self, number: int) -> Writer:
         spec = self.scenario.writers[number - 1]
@@ -104,6 +105,24 @@ class Service:
     def chunks_of(self, request: Request) -> int:
         """The sum of the answers to a request; a writer without one counts with its chunks that were taken."""
         return sum(request.answers.get(writer.number, self.taken[writer.number - 1]) for writer in self.writers)
+
+    # Flush requests of `run`: what the service doesn't see at once
+
+    def note_request(self) -> None:
+        self.requests.append(Request())
+
+    def poll(self, writer: Writer) -> None:
+        """A writer that has no packet begun answers the newest request, where it is newer than its last answer."""
+        if writer.in_packet or len(self.requests) <= self.given.get(writer.number, (0, 0))[0]:
+            return
+        writer.flush()
+        self.given[writer.number] = (len(self.requests), writer.completed)
+
+    def read_answers(self) -> None:
+        """An answer is one to each request up to its own that the writer hadn't answered before."""
+        for number, (newest, chunks) in self.given.items():
+            for request in self.requests[:newest]:
+                request.answers.setdefault(number, chunks)
 
     # The end
 
