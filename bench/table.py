@@ -7,7 +7,7 @@ A round is the claim, begin, publish and completion of a chunk with 284 bytes of
 release by the service, all on one thread. Its payload takes 36 stores and 36 loads of atomic words, which are timed alone
 too: by a writer that holds its chunk and publishes it again and again. Processor time counts, so that other work on the
 machine matters little. What that is compared with: the same atomic steps without anything around them, written in C;
-docs/SPEED.md has their time.
+docs/SPEED.md has their time. A poll is a writer's look for flush requests where none was made: one load.
 
 Then four writers, each on a thread of its own, write packets with a number, and a message with a text and a number, while
 the service takes their chunks on a fifth thread: into chunks of their own, 56 for each writer, or all into the same 224.
@@ -61,6 +61,7 @@ def main():
         subprocess.run(['rt', 'run'], cwd=CRATE, stdin=lines, check=True, capture_output=True)
     cycle, payload = nanoseconds(b'cycle'), nanoseconds(b'payload')
     print(f'{cycle:.1f} ns a round; its payload alone takes {payload:.1f} ns')
+    print(f'a poll for flush requests where there is none: {nanoseconds(b"poll"):.1f} ns')
     print('compared with the same atomic steps in C, on machine B of docs/SPEED.md: 322 to 336 ns, and 58 to 75 without payload')
     for kind, chunks in ((b'own', 'of their own'), (b'shared', 'that they share')):
         rate, share = packets(kind)

@@ -1,18 +1,21 @@
 //! How fast the table is that threads share. The input says what is timed, and how often: `cycle N`
 //! for N rounds of one chunk, from its claim to its release, `payload N` for what the payload alone
-//! takes in as many rounds, or packets of four writers, each on a thread of its own and with N
-//! packets, beside the service: `own N` where each has chunks of its own, `shared N` where they claim
-//! the same ones. `bench/table.py` times it.
+//! takes in as many rounds, `poll N` for N polls of a writer where no flush request was made, or
+//! packets of four writers, each on a thread of its own and with N packets, beside the service: `own
+//! N` where each has chunks of its own, `shared N` where they claim the same ones. `bench/table.py`
+//! times it.
 #![tactic(auto)]
 
 mod payload;
 mod places;
+mod polls;
 mod rounds;
 mod service;
 mod threads;
 mod writers;
 
 use crate::payload::pass_payload;
+use crate::polls::poll_often;
 use crate::rounds::go_round;
 use crate::threads::write_on_threads;
 use byte_io::fill::fill_all;
@@ -36,6 +39,7 @@ fn main(rt: HostRuntime) -> io::Result<()> {
     let answer = match kind {
         "cycle" => go_round(rt.alloc(), count),
         "payload" => pass_payload(rt.alloc(), count),
+        "poll" => poll_often(rt.alloc(), count),
         "own" => write_on_threads(&rt, rt.alloc(), true, count),
         _ => write_on_threads(&rt, rt.alloc(), false, count),
     };

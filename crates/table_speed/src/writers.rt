@@ -22,7 +22,7 @@ use trace_base::steps::Steps;
 use trace_writer::{NoHelp, PACKET_IDS, drops_never_stall};
 
 /// The writer of a seat with which nothing was done.
-fn writer_for(host: &HostTable, place: Place, geometry: Geometry) -> TraceWriter
+pub fn writer_for(host: &HostTable, place: Place, geometry: Geometry) -> TraceWriter
     requires fresh { IsFresh host.now place }
     requires size { payload_size geometry.page_size geometry.chunks ≡ 284 }
     ensures ready { IsReady host.now result }
