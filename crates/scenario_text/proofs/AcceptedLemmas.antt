@@ -17,7 +17,7 @@ use Rattle.field_tree.specs.Nodes.{Shown}
 use Rattle.trace_base.specs.declared.numeral.Numeral.{Numeral}
 use Rattle.trace_base.specs.declared.numeral.Numeral.TheVariants.{Fits, TooLarge}
 use Rattle.scenario_text.specs.declared.form.Form.{Form}
-use Rattle.scenario_text.specs.declared.form.Form.TheVariants.{Buffer, Producer, Writer, OfWriter, OfProducer, Read, Request}
+use Rattle.scenario_text.specs.declared.form.Form.TheVariants.{Buffer, Producer, Writer, OfWriter, OfProducer, Read, Request, CloneBuffer}
 use Rattle.scenario_text.specs.declared.form.WriterStep.{WriterStep}
 use Rattle.scenario_text.specs.declared.form.WriterStep.TheVariants.{Packet, Begin, Add, Nest, Unnest, End, Flush}
 use Rattle.scenario_text.specs.declared.form.ProducerStep.{ProducerStep}
@@ -30,7 +30,7 @@ use Rattle.scenario_text.specs.Items.{item, with_item}
 use Rattle.scenario_text.specs.Ranges.{value}
 use Rattle.scenario_text.specs.State.{State, beginning, packet_of, is_closed}
 use Rattle.scenario_text.specs.Reasons.{front_reasons, back_reasons, refusal_of, given, lacks_writer, step_len}
-use Rattle.scenario_text.specs.Effects.{policy_of, moved, nodes_given, written, served, with_line, with_packet, with_closed, with_bytes, writer_kind, producer_kind, packet_after}
+use Rattle.scenario_text.specs.Effects.{policy_of, moved, nodes_given, written, served, with_line, with_packet, with_closed, with_bytes, writer_kind, producer_kind, packet_after, with_clone}
 use Rattle.scenario_text.specs.Grammar.{earlier, line_left, first_left}
 use Rattle.scenario_text.specs.Scenario.{Parts, IsScenario}
 use Rattle.scenario_text.specs.Accepted.{line_calls, calls_asked, closes, is_closed_by, AsksWell}
@@ -293,7 +293,7 @@ producer_keeps state number producer Close told =
 
 line_keeps : (state : State) (number : ℕ) (line : List ℕ) (form : Form) → refusal_of state line form ≡ None → IsTold state
     → IsTold (moved state number form (nodes_given (given state line form)))
-unfolding moved line_calls is_closed item
+unfolding moved with_clone line_calls is_closed item
 line_keeps state number line (Buffer kb policy) none told = record { many = told.many; each = told.each; shut = told.shut }
 line_keeps state number line (Producer pages page_size chunks) none told = record {
   many = told.many;
@@ -311,6 +311,9 @@ line_keeps state number line (OfWriter writer step) none told = writer_keeps sta
 line_keeps state number line (OfProducer producer step) none told = producer_keeps state number producer step told
 line_keeps state number line (Read buffer limit) none told = told_line state number _ (λ writer. refl) told
 line_keeps state number line Request none told = told_line state number _ (λ writer. refl) told
+line_keeps state number line (CloneBuffer buffer) none told =
+    let with = told_line state number _ (λ writer. refl) told in
+    record { many = with.many; each = with.each; shut = with.shut }
 
 none_told : IsTold beginning
 unfolding is_closed item

@@ -9,8 +9,8 @@ use Rattle.trace_base.specs.declared.numeral.Numeral.{Numeral}
 use Rattle.trace_base.specs.declared.numeral.Numeral.TheVariants.{Fits, TooLarge}
 use Rattle.scenario_text.specs.declared.form.NamedPolicy.{NamedPolicy}
 use Rattle.scenario_text.specs.declared.form.Form.{Form}
-use Rattle.scenario_text.specs.declared.form.Form.TheVariants.{Buffer, Producer, Writer, OfWriter, OfProducer, Read}
-use Rattle.scenario_text.specs.declared.form.TheConstants.{MAX_TRIES}
+use Rattle.scenario_text.specs.declared.form.Form.TheVariants.{Buffer, Producer, Writer, OfWriter, OfProducer, Read, CloneBuffer}
+use Rattle.scenario_text.specs.declared.form.TheConstants.{MAX_CLONES, MAX_TRIES}
 use Rattle.scenario_text.specs.declared.form.NamedPolicy.TheVariants.{Drops, Stalls, StallsThenDrops}
 use Rattle.scenario_text.specs.declared.form.WriterStep.{WriterStep}
 use Rattle.scenario_text.specs.declared.form.ProducerStep.{ProducerStep}
@@ -240,3 +240,11 @@ pub buffer_named : (state : State) (buffer : Numeral) (limit : Option Numeral) �
     → value buffer ≤ length state.buffers
 unfolding lacks_buffer
 buffer_named state buffer limit none = item_inside state.buffers buffer (passed state (Read buffer limit) none).buffer
+
+pub cloned_named : (state : State) (buffer : Numeral) → first (front_reasons state (CloneBuffer buffer)) ≡ None → value buffer ≤ length state.buffers
+unfolding lacks_buffer
+cloned_named state buffer none = item_inside state.buffers buffer (passed state (CloneBuffer buffer) none).buffer
+
+pub room_for_clone : (state : State) (buffer : Numeral) → first (front_reasons state (CloneBuffer buffer)) ≡ None → state.clones < MAX_CLONES
+unfolding is_too_many
+room_for_clone state buffer none = grind (arith, common_steps, (passed state (CloneBuffer buffer) none).room)

@@ -13,7 +13,7 @@ use Rattle.trace_base.specs.declared.numeral.Numeral.{Numeral}
 use Rattle.trace_base.specs.declared.numeral.Numeral.TheVariants.{Fits, TooLarge}
 use Rattle.scenario_text.specs.declared.form.NamedPolicy.{NamedPolicy}
 use Rattle.scenario_text.specs.declared.form.Form.{Form}
-use Rattle.scenario_text.specs.declared.form.Form.TheVariants.{Buffer, Producer, Writer, OfWriter, OfProducer, Read, Request}
+use Rattle.scenario_text.specs.declared.form.Form.TheVariants.{Buffer, Producer, Writer, OfWriter, OfProducer, Read, Request, CloneBuffer}
 use Rattle.scenario_text.specs.declared.form.ProducerStep.{ProducerStep}
 use Rattle.scenario_text.specs.declared.form.ProducerStep.TheVariants.{Collect, Scrape, Close}
 use Rattle.scenario_text.specs.declared.scenario.BufferLine.{BufferLine}
@@ -25,7 +25,7 @@ use Rattle.scenario_text.specs.Ranges.{value}
 use Rattle.scenario_text.specs.State.{State, beginning}
 use Rattle.scenario_text.specs.Sound.{is_cut}
 use Rattle.scenario_text.specs.Reasons.{first, front_reasons, back_reasons, refusal_of, given, is_larger, is_out_of_range, has_larger_chunks, lacks_producer, lacks_buffer}
-use Rattle.scenario_text.specs.Effects.{policy_of, moved, nodes_given, written, with_line, with_packet, with_closed, with_bytes, served}
+use Rattle.scenario_text.specs.Effects.{policy_of, moved, nodes_given, written, with_line, with_packet, with_closed, with_bytes, served, with_clone}
 use Rattle.scenario_text.specs.Scenario.{IsScenario, Parts}
 use Rattle.scenario_text.specs.Limits.{IsBuffer, IsProducer, IsSetUp, IsWriter}
 use Rattle.scenario_text.proofs.SoundLemmas.{cut_pages, cut_chunks}
@@ -172,7 +172,7 @@ served_keeps state producer Close keeps = keeps
 
 moved_keeps : (state : State) (number : ℕ) (form : Form) (nodes : List Shown) → first (front_reasons state form) ≡ None → KeepsLimits state
     → KeepsLimits (moved state number form nodes)
-unfolding moved written with_line with_packet with_bytes
+unfolding moved written with_line with_packet with_bytes with_clone
 moved_keeps state number (Buffer kb policy) nodes none keeps =
     more_buffer state.buffers state.producers state.writers _ keeps (room_for_buffer state kb policy none) (buffer_known state kb policy none)
 moved_keeps state number (Producer pages page_size chunks) nodes none keeps =
@@ -185,6 +185,7 @@ moved_keeps state number (OfWriter writer step) nodes none keeps = keeps
 moved_keeps state number (OfProducer producer step) nodes none keeps = served_keeps _ producer step keeps
 moved_keeps state number (Read buffer limit) nodes none keeps = keeps
 moved_keeps state number Request nodes none keeps = keeps
+moved_keeps state number (CloneBuffer buffer) nodes none keeps = keeps
 
 line_keeps : (state : State) (number : ℕ) (line : List ℕ) (form : Form) → refusal_of state line form ≡ None → KeepsLimits state
     → KeepsLimits (moved state number form (nodes_given (given state line form)))

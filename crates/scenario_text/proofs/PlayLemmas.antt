@@ -6,12 +6,12 @@ use Rattle.scenario_text.specs.Ranges.{value}
 use Rattle.trace_base.specs.declared.numeral.Numeral.{Numeral}
 use Rattle.scenario_text.specs.declared.form.NamedPolicy.{NamedPolicy}
 use Rattle.scenario_text.specs.declared.form.Form.{Form}
-use Rattle.scenario_text.specs.declared.form.Form.TheVariants.{Buffer, Producer, Writer, OfWriter, OfProducer, Read, Request}
+use Rattle.scenario_text.specs.declared.form.Form.TheVariants.{Buffer, Producer, Writer, OfWriter, OfProducer, Read, Request, CloneBuffer}
 use Rattle.scenario_text.specs.declared.form.ProducerStep.{ProducerStep}
 use Rattle.scenario_text.specs.declared.reason.Reason.{Reason}
 use Rattle.scenario_text.specs.State.{State}
 use Rattle.scenario_text.specs.Reasons.{first, front_reasons, back_reasons, refusal_of, given}
-use Rattle.scenario_text.specs.Effects.{moved, with_line, producer_kind, served, limit_of}
+use Rattle.scenario_text.specs.Effects.{moved, with_clone, with_line, producer_kind, served, limit_of}
 use Rattle.scenario_text.specs.Grammar.{after_form, unless}
 use Rattle.scenario_text.proofs.WriteLemmas.{back_left, first-append_some}
 
@@ -30,6 +30,7 @@ nothing_back state line (OfWriter writer step) other = absurd other
 nothing_back state line (OfProducer producer step) other = (refl, refl)
 nothing_back state line (Read buffer limit) other = (refl, refl)
 nothing_back state line Request other = (refl, refl)
+nothing_back state line (CloneBuffer buffer) other = (refl, refl)
 
 -- once no reason of the front holds it is taken
 taken_as_it_is : (state : State) (number : ℕ) (line : List ℕ) (form : Form) → IsNoWriters form
@@ -76,6 +77,11 @@ pub taken_request : (state : State) (number : ℕ) (line : List ℕ) → first (
     → after_form state number line (Some Request) ≡ Ok (with_line state number kinds.Request)
 unfolding moved
 taken_request state number line none = taken_as_it_is state number line Request tt none
+
+pub taken_clone : (state : State) (number : ℕ) (line : List ℕ) (buffer : Numeral) → first (front_reasons state (CloneBuffer buffer)) ≡ None
+    → after_form state number line (Some (CloneBuffer buffer)) ≡ Ok (with_clone (with_line state number (kinds.CloneBuffer (value buffer))))
+unfolding moved
+taken_clone state number line buffer none = taken_as_it_is state number line (CloneBuffer buffer) tt none
 
 by_front : (state : State) (line : List ℕ) (form : Form) (reason : Reason) → first (front_reasons state form) ≡ Some reason
     → refusal_of state line form ≡ Some reason

@@ -14,7 +14,7 @@ use Rattle.field_tree.specs.Nodes.{Shown}
 use Rattle.trace_base.specs.declared.numeral.Numeral.{Numeral}
 use Rattle.trace_base.specs.declared.numeral.Numeral.TheVariants.{Fits, TooLarge}
 use Rattle.scenario_text.specs.declared.form.Form.{Form}
-use Rattle.scenario_text.specs.declared.form.Form.TheVariants.{Buffer, Producer, Writer, OfWriter, OfProducer, Read, Request}
+use Rattle.scenario_text.specs.declared.form.Form.TheVariants.{Buffer, Producer, Writer, OfWriter, OfProducer, Read, Request, CloneBuffer}
 use Rattle.scenario_text.specs.declared.form.WriterStep.{WriterStep}
 use Rattle.scenario_text.specs.declared.form.WriterStep.TheVariants.{Packet, Begin, Add, Nest, Unnest, End, Flush}
 use Rattle.scenario_text.specs.declared.form.ProducerStep.{ProducerStep}
@@ -29,10 +29,10 @@ use Rattle.scenario_text.specs.Items.{item, with_item}
 use Rattle.scenario_text.specs.Ranges.{fits, value}
 use Rattle.scenario_text.specs.State.{State, beginning, is_closed}
 use Rattle.scenario_text.specs.Reasons.{front_reasons, back_reasons, refusal_of, given, is_limit, is_out_of_range, lacks_producer, lacks_buffer, lacks_writer, is_closed_for, has_closed_producer}
-use Rattle.scenario_text.specs.Effects.{policy_of, moved, nodes_given, written, served, with_line, with_packet, with_closed, with_bytes, writer_kind, producer_kind, limit_of}
+use Rattle.scenario_text.specs.Effects.{policy_of, moved, nodes_given, written, served, with_line, with_packet, with_closed, with_bytes, writer_kind, producer_kind, limit_of, with_clone}
 use Rattle.scenario_text.specs.Scenario.{Parts, IsScenario}
 use Rattle.scenario_text.specs.Accepted.{closes, is_closed_by}
-use Rattle.scenario_text.specs.Reach.{NamesWriter, NamesProducer, ReadsBuffer, IsInReach, AreInReach}
+use Rattle.scenario_text.specs.Reach.{NamesWriter, NamesProducer, NamesBuffer, ReadsBuffer, IsInReach, AreInReach}
 use Rattle.scenario_text.proofs.SoundLemmas.{both}
 use Rattle.scenario_text.proofs.FrontLemmas.{IsPassed, passed, within_least, within_most}
 use Rattle.scenario_text.proofs.LimitLemmas.{named}
@@ -106,6 +106,7 @@ reach_writer buffers producers writers writer before (kinds.Scrape producer) nam
 reach_writer buffers producers writers writer before (kinds.Close producer) names = names
 reach_writer buffers producers writers writer before (kinds.Read buffer limit) names = names
 reach_writer buffers producers writers writer before kinds.Request names = names
+reach_writer buffers producers writers writer before (kinds.CloneBuffer buffer) names = names
 
 more_producers : (producers : List ProducerLine) (producer : ProducerLine) (before : List NumberedLine) (number : ℕ)
     → NamesProducer producers before number → NamesProducer (producers ++ producer ∷ []) before number
@@ -130,6 +131,7 @@ reach_producer buffers producers writers producer before (kinds.Scrape number) n
 reach_producer buffers producers writers producer before (kinds.Close number) names = more_producers producers producer before number names
 reach_producer buffers producers writers producer before (kinds.Read buffer limit) names = names
 reach_producer buffers producers writers producer before kinds.Request names = names
+reach_producer buffers producers writers producer before (kinds.CloneBuffer buffer) names = names
 
 reach_buffer : (buffers : List BufferLine) (producers : List ProducerLine) (writers : List WriterSpec) (buffer : BufferLine)
     (before : List NumberedLine) (kind : LineKind) → IsInReach buffers producers writers before kind
@@ -151,6 +153,10 @@ reach_buffer buffers producers writers buffer before (kinds.Read number limit) n
   counted = names.counted;
 }
 reach_buffer buffers producers writers buffer before kinds.Request names = names
+reach_buffer buffers producers writers buffer before (kinds.CloneBuffer number) names = record {
+  least = names.least;
+  most = omega (arith, names.most, length-append buffers (buffer ∷ []));
+}
 
 -- ---- which producers are closed
 
@@ -291,6 +297,12 @@ buffer_in_reach state buffer limit pass =
       counted = limit_most limit in_range.1;
     }
 
+clone_in_reach : (state : State) (buffer : Numeral) → IsPassed state (CloneBuffer buffer) → NamesBuffer state.buffers (value buffer)
+unfolding lacks_buffer
+clone_in_reach state buffer pass =
+    let n = named state.buffers buffer pass.buffer in
+    record { least = n.counted; most = omega (arith, n.counted, slice_get_within state.buffers (value buffer - 1) n.thing n.is) }
+
 -- ---- one line
 
 -- a line that closes nothing, and names what is there
@@ -373,7 +385,7 @@ producer_keeps state number producer Close pass reaching = close_keeps state num
 
 moved_keeps : (state : State) (number : ℕ) (form : Form) (nodes : List Shown) → IsPassed state form → IsReaching state
     → IsReaching (moved state number form nodes)
-unfolding moved is_closed item closes
+unfolding moved with_clone is_closed item closes
 moved_keeps state number (Buffer kb policy) nodes pass reaching =
     let buffer : BufferLine = record { kb = value kb; policy = policy } in
     record {
@@ -400,6 +412,9 @@ moved_keeps state number (OfProducer producer step) nodes pass reaching = produc
 moved_keeps state number (Read buffer limit) nodes pass reaching =
     reach_line state number (kinds.Read (value buffer) (limit_of limit)) (λ other. refl) (buffer_in_reach state buffer limit pass) reaching
 moved_keeps state number Request nodes pass reaching = reach_line state number kinds.Request (λ other. refl) tt reaching
+moved_keeps state number (CloneBuffer buffer) nodes pass reaching =
+    let with = reach_line state number (kinds.CloneBuffer (value buffer)) (λ other. refl) (clone_in_reach state buffer pass) reaching in
+    record { many = with.many; known = with.known; each = with.each }
 
 line_keeps : (state : State) (number : ℕ) (line : List ℕ) (form : Form) → refusal_of state line form ≡ None → IsReaching state
     → IsReaching (moved state number form (nodes_given (given state line form)))

@@ -7,7 +7,7 @@ use Rattle.trace_base.specs.declared.limits.TheConstants.{MAX_SCENARIO_PACKET_BY
 use Rattle.field_tree.specs.Nodes.{Shown}
 use Rattle.trace_base.specs.declared.numeral.Numeral.{Numeral}
 use Rattle.scenario_text.specs.declared.form.Form.{Form}
-use Rattle.scenario_text.specs.declared.form.Form.TheVariants.{Buffer, Producer, Writer, OfWriter, OfProducer, Read, Request}
+use Rattle.scenario_text.specs.declared.form.Form.TheVariants.{Buffer, Producer, Writer, OfWriter, OfProducer, Read, Request, CloneBuffer}
 use Rattle.scenario_text.specs.declared.form.WriterStep.{WriterStep}
 use Rattle.scenario_text.specs.declared.form.WriterStep.TheVariants.{Packet, Begin, Add, Nest, Unnest, End, Flush}
 use Rattle.scenario_text.specs.declared.form.ProducerStep.{ProducerStep}
@@ -21,7 +21,7 @@ use Rattle.scenario_text.specs.Ranges.{value}
 use Rattle.scenario_text.specs.State.{State, beginning, packet_of}
 use Rattle.scenario_text.specs.State as state_words
 use Rattle.scenario_text.specs.Reasons.{first, front_reasons, back_reasons, refusal_of, given, given_by, step_len}
-use Rattle.scenario_text.specs.Effects.{moved, nodes_given, written, served, with_line, with_packet, with_closed, with_bytes, writer_kind, producer_kind}
+use Rattle.scenario_text.specs.Effects.{moved, nodes_given, written, served, with_line, with_packet, with_closed, with_bytes, writer_kind, producer_kind, with_clone}
 use Rattle.scenario_text.specs.Forms.{form_of}
 use Rattle.scenario_text.specs.Grammar.{unless, after_form, says_nothing, after_line, first_left, unless_left, at_end, and_then, after_lines, state_after}
 use Rattle.scenario_text.specs.Scenario.{Parts, parts_of, parts_said, said, scenario_of, IsScenario}
@@ -93,7 +93,7 @@ counted_writer state number line writer step none counted =
 
 counted_keeps : (state : State) (number : ℕ) (line : List ℕ) (form : Form) → refusal_of state line form ≡ None → AreCounted state
     → AreCounted (moved state number form (nodes_given (given state line form)))
-unfolding moved
+unfolding moved with_clone
 counted_keeps state number line (Buffer kb policy) none counted = record { sum_is = counted.sum_is; most = counted.most }
 counted_keeps state number line (Producer pages page_size chunks) none counted = record { sum_is = counted.sum_is; most = counted.most }
 counted_keeps state number line (Writer producer buffer policy) none counted = record { sum_is = counted.sum_is; most = counted.most }
@@ -103,6 +103,9 @@ counted_keeps state number line (OfProducer producer step) none counted =
     (counted_line state number (producer_kind (value producer) step) (producer_len (value producer) step) counted)
 counted_keeps state number line (Read buffer limit) none counted = counted_line state number _ refl counted
 counted_keeps state number line Request none counted = counted_line state number _ refl counted
+counted_keeps state number line (CloneBuffer buffer) none counted =
+    let with = counted_line state number _ refl counted in
+    record { sum_is = with.sum_is; most = with.most }
 
 -- ---- how many lines there are
 
@@ -114,7 +117,7 @@ push_one : (lines : List NumberedLine) (line : NumberedLine) → length (lines +
 push_one lines line = omega (arith, length-append lines (line ∷ []))
 
 moved_one : (state : State) (number : ℕ) (form : Form) (nodes : List Shown) → OneMore state (moved state number form nodes)
-unfolding moved written with_line with_packet with_bytes
+unfolding moved written with_line with_packet with_bytes with_clone
 moved_one state number (Buffer kb policy) nodes = omega arith
 moved_one state number (Producer pages page_size chunks) nodes = omega arith
 moved_one state number (Writer producer buffer policy) nodes = omega arith
@@ -124,6 +127,7 @@ moved_one state number (OfProducer producer step) nodes =
     (sym (served_lines (with_line state number (producer_kind (value producer) step)) producer step)) (push_one state.lines _)
 moved_one state number (Read buffer limit) nodes = push_one state.lines _
 moved_one state number Request nodes = push_one state.lines _
+moved_one state number (CloneBuffer buffer) nodes = push_one state.lines _
 
 unless_one : (refusal : Option Reason) (state middle after : State) → OneMore state middle → unless refusal middle ≡ Ok after → OneMore state after
 unfolding unless

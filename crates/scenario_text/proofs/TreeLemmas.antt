@@ -13,7 +13,7 @@ use Rattle.field_tree.proofs.AnswerLemmas.{outcome_means}
 use Rattle.trace_base.specs.declared.limits.TheConstants.{MAX_NESTING, MAX_PACKET_LEN}
 use Rattle.trace_base.specs.declared.numeral.Numeral.{Numeral}
 use Rattle.scenario_text.specs.declared.form.Form.{Form}
-use Rattle.scenario_text.specs.declared.form.Form.TheVariants.{Buffer, Producer, Writer, OfWriter, OfProducer, Read, Request}
+use Rattle.scenario_text.specs.declared.form.Form.TheVariants.{Buffer, Producer, Writer, OfWriter, OfProducer, Read, Request, CloneBuffer}
 use Rattle.scenario_text.specs.declared.form.WriterStep.{WriterStep}
 use Rattle.scenario_text.specs.declared.form.WriterStep.TheVariants.{Packet, Begin, Add, Nest, Unnest, End, Flush}
 use Rattle.scenario_text.specs.declared.form.ProducerStep.{ProducerStep}
@@ -23,7 +23,7 @@ use Rattle.scenario_text.specs.Ranges.{value}
 use Rattle.scenario_text.specs.State.{State, beginning, packet_of}
 use Rattle.scenario_text.specs.State as state_words
 use Rattle.scenario_text.specs.Reasons.{given, given_by}
-use Rattle.scenario_text.specs.Effects.{writer_kind, producer_kind, nodes_given, with_line, with_packet, with_bytes, with_closed, served, written, moved}
+use Rattle.scenario_text.specs.Effects.{writer_kind, producer_kind, nodes_given, with_line, with_packet, with_bytes, with_closed, served, written, moved, with_clone}
 use Rattle.scenario_text.specs.declared.scenario.NumberedLine.{NumberedLine}
 use Rattle.scenario_text.specs.declared.scenario.Scenario.{Scenario}
 use Rattle.scenario_text.specs.Scenario.{Parts, IsScenario}
@@ -126,7 +126,7 @@ served_lines state producer Close = refl
 
 moved_trees : (state : State) (number : ℕ) (line : List ℕ) (form : Form) → GiveTrees state.lines
     → GiveTrees (moved state number form (nodes_given (given state line form))).lines
-unfolding moved given written with_line with_packet with_bytes
+unfolding moved given written with_line with_packet with_bytes with_clone
 moved_trees state number line (Buffer kb policy) all = all
 moved_trees state number line (Producer pages page_size chunks) all = all
 moved_trees state number line (Writer producer buffer policy) all = all
@@ -138,6 +138,7 @@ moved_trees state number line (OfProducer producer step) all =
     (one_more state.lines _ all (producer_tree (value producer) step))
 moved_trees state number line (Read buffer limit) all = one_more state.lines _ all tt
 moved_trees state number line Request all = one_more state.lines _ all tt
+moved_trees state number line (CloneBuffer buffer) all = one_more state.lines _ all tt
 
 -- ---- every scenario
 

@@ -5,7 +5,7 @@ use Rattle.trace_base.specs.declared.numeral.Numeral.{Numeral}
 use Rattle.trace_base.specs.declared.policy.WriterPolicy.{WriterPolicy}
 use Rattle.trace_base.specs.declared.policy.WriterPolicy.TheVariants as policies
 use Rattle.scenario_text.specs.declared.form.Form.{Form}
-use Rattle.scenario_text.specs.declared.form.Form.TheVariants.{Buffer, Producer, Writer, OfWriter, OfProducer, Read, Request}
+use Rattle.scenario_text.specs.declared.form.Form.TheVariants.{Buffer, Producer, Writer, OfWriter, OfProducer, Read, Request, CloneBuffer}
 use Rattle.scenario_text.specs.declared.form.NamedPolicy.{NamedPolicy}
 use Rattle.scenario_text.specs.declared.form.NamedPolicy.TheVariants.{Drops, Stalls, StallsThenDrops}
 use Rattle.scenario_text.specs.declared.form.WriterStep.{WriterStep}
@@ -83,6 +83,10 @@ with_closed state producer = record state { closed = with_item state.closed prod
 unfoldable pub with_bytes : State → ℕ → State
 with_bytes state added = record state { bytes = state.bytes + added }
 
+-- with one clone of a buffer more
+unfoldable pub with_clone : State → State
+with_clone state = record state { clones = state.clones + 1 }
+
 -- with the line that the writer is given, its packet so after it, and so many bytes more
 unfoldable pub written : State → ℕ → Numeral → WriterStep → List Shown → ℕ → State
 written state line writer step nodes added =
@@ -113,6 +117,7 @@ moved state line (OfProducer producer step) nodes =
     served (with_line state line (producer_kind (value producer) step)) producer step
 moved state line (Read buffer limit) nodes = with_line state line (kinds.Read (value buffer) (limit_of limit))
 moved state line Request nodes = with_line state line kinds.Request
+moved state line (CloneBuffer buffer) nodes = with_clone (with_line state line (kinds.CloneBuffer (value buffer)))
 
 -- how often a writer asks can be counted
 abbrev pub TriesFit : NamedPolicy → Type 0

@@ -5,7 +5,7 @@ use Rattle.trace_base.specs.declared.policy.FullPolicy.TheVariants.{Ring, Discar
 use Rattle.trace_base.specs.declared.numeral.Numeral.{Numeral}
 use Rattle.scenario_text.specs.declared.form.Form.{Form}
 use Rattle.scenario_text.specs.declared.form.NamedPolicy.TheVariants.{Drops, Stalls, StallsThenDrops}
-use Rattle.scenario_text.specs.declared.form.Form.TheVariants.{Buffer, Producer, Writer, OfWriter, OfProducer, Read, Request}
+use Rattle.scenario_text.specs.declared.form.Form.TheVariants.{Buffer, Producer, Writer, OfWriter, OfProducer, Read, Request, CloneBuffer}
 use Rattle.scenario_text.specs.declared.form.WriterStep.TheVariants.{Packet, Begin, Add, Nest, Unnest, End, Flush}
 use Rattle.scenario_text.specs.declared.form.ProducerStep.TheVariants.{Collect, Scrape, Close}
 use Rattle.scenario_text.specs.Pieces.{pieces}
@@ -23,13 +23,14 @@ with_number form word = option_and_then form (numeral_of word)
 unfoldable pub one_word : List ℕ → Option Form
 one_word word = if is word (codes "q") then Some Request else None
 
--- `c P`, `s P`, `x P`, `r B`
+-- `c P`, `s P`, `x P`, `r B`, `k B`
 unfoldable pub service_form : List ℕ → Numeral → Option Form
 service_form word n =
     if is word (codes "c") then Some (OfProducer n Collect)
     else if is word (codes "s") then Some (OfProducer n Scrape)
     else if is word (codes "x") then Some (OfProducer n Close)
     else if is word (codes "r") then Some (Read n None)
+    else if is word (codes "k") then Some (CloneBuffer n)
     else None
 
 -- `p W`, `b W`, `a W`, `u W`, `e W`, `f W`, and those of the service

@@ -2,7 +2,7 @@
 use Rattle.std.specs.Prelude.{◌≡◌, ℕ, ◌+◌, ◌*◌, ◌^◌, ◌≤◌, List, [], ◌∷◌, length, take, drop, ⊤}
 use Rattle.field_tree.specs.Written.{shown_in, AreFitNodes}
 use Rattle.scenario_text.specs.declared.line_list.KeptKind.{KeptKind}
-use Rattle.scenario_text.specs.declared.line_list.KeptKind.TheVariants.{Packet, Begin, Add, Nest, Unnest, End, Flush, Collect, Scrape, Close, Read, Request}
+use Rattle.scenario_text.specs.declared.line_list.KeptKind.TheVariants.{Packet, Begin, Add, Nest, Unnest, End, Flush, Collect, Scrape, Close, Read, Request, CloneBuffer}
 use Rattle.scenario_text.specs.declared.line_list.KeptLine.{KeptLine}
 use Rattle.scenario_text.specs.declared.scenario.LineKind.{LineKind}
 use Rattle.scenario_text.specs.declared.scenario.LineKind.TheVariants as kinds
@@ -28,6 +28,7 @@ kind_of (Scrape producer) own = kinds.Scrape producer
 kind_of (Close producer) own = kinds.Close producer
 kind_of (Read buffer high low) own = kinds.Read buffer (high * 2 ^ 32 + low)
 kind_of Request own = kinds.Request
+kind_of (CloneBuffer buffer) own = kinds.CloneBuffer buffer
 
 -- the bytes say the line's nodes, where it has some
 abbrev pub HasOwn : KeptKind → List ℕ → Type 0

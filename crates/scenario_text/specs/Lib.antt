@@ -20,6 +20,7 @@ pub mod Texts
 pub mod Trees
 pub mod View
 pub mod Behind
+pub mod Clones
 pub mod KeptLines
 pub mod PacketLines
 pub mod OwnLines

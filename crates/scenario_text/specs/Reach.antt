@@ -6,7 +6,7 @@ use Rattle.trace_base.specs.declared.policy.WriterSpec.{WriterSpec}
 use Rattle.scenario_text.specs.declared.scenario.BufferLine.{BufferLine}
 use Rattle.scenario_text.specs.declared.scenario.ProducerLine.{ProducerLine}
 use Rattle.scenario_text.specs.declared.scenario.LineKind.{LineKind}
-use Rattle.scenario_text.specs.declared.scenario.LineKind.TheVariants.{Packet, Begin, Add, Nest, Unnest, End, Flush, Collect, Scrape, Close, Read, Request}
+use Rattle.scenario_text.specs.declared.scenario.LineKind.TheVariants.{Packet, Begin, Add, Nest, Unnest, End, Flush, Collect, Scrape, Close, Read, Request, CloneBuffer}
 use Rattle.scenario_text.specs.declared.scenario.NumberedLine.{NumberedLine}
 use Rattle.scenario_text.specs.declared.scenario.Scenario.{Scenario}
 use Rattle.scenario_text.specs.Scenario.{IsScenario}
@@ -24,6 +24,11 @@ pub record NamesProducer (producers : List ProducerLine) (before : List Numbered
   pub least : 1 ≤ number
   pub most : number ≤ length producers
   pub opened : is_closed_by before number ≡ false
+
+-- there is a buffer with this number, counted from 1
+pub record NamesBuffer (buffers : List BufferLine) (number : ℕ) : Type 0 where
+  pub least : 1 ≤ number
+  pub most : number ≤ length buffers
 
 -- there is a buffer with this number, counted from 1, and at least one packet is read, and no more than can be counted
 pub record ReadsBuffer (buffers : List BufferLine) (number limit : ℕ) : Type 0 where
@@ -46,6 +51,7 @@ IsInReach buffers producers writers before (Scrape producer) = NamesProducer pro
 IsInReach buffers producers writers before (Close producer) = NamesProducer producers before producer
 IsInReach buffers producers writers before (Read buffer limit) = ReadsBuffer buffers buffer limit
 IsInReach buffers producers writers before Request = Unit {0}
+IsInReach buffers producers writers before (CloneBuffer buffer) = NamesBuffer buffers buffer
 
 -- what each line names is there, behind the lines before it
 abbrev pub AreInReach : List BufferLine → List ProducerLine → List WriterSpec → List NumberedLine → Type 0

@@ -6,10 +6,10 @@ use Rattle.page_geometry.specs.Sizes.{payload_size, record_size}
 use Rattle.trace_base.specs.declared.numeral.Numeral.{Numeral}
 use Rattle.trace_base.specs.declared.numeral.Numeral.TheVariants.{Fits}
 use Rattle.scenario_text.specs.declared.form.Form.{Form}
-use Rattle.scenario_text.specs.declared.form.TheConstants.{MAX_TRIES}
+use Rattle.scenario_text.specs.declared.form.TheConstants.{MAX_CLONES, MAX_TRIES}
 use Rattle.scenario_text.specs.declared.form.NamedPolicy.{NamedPolicy}
 use Rattle.scenario_text.specs.declared.form.NamedPolicy.TheVariants.{StallsThenDrops}
-use Rattle.scenario_text.specs.declared.form.Form.TheVariants.{Buffer, Producer, Writer, OfWriter, OfProducer, Read, Request}
+use Rattle.scenario_text.specs.declared.form.Form.TheVariants.{Buffer, Producer, Writer, OfWriter, OfProducer, Read, Request, CloneBuffer}
 use Rattle.scenario_text.specs.declared.form.WriterStep.{WriterStep}
 use Rattle.scenario_text.specs.declared.form.WriterStep.TheVariants.{Packet, Begin, Add, Nest, Unnest, End, Flush}
 use Rattle.scenario_text.specs.declared.reason.Reason.{Reason}
@@ -53,6 +53,7 @@ is_out_of_range (OfWriter writer step) = not (fits writer)
 is_out_of_range (OfProducer producer step) = not (fits producer)
 is_out_of_range (Read buffer limit) = not (fits buffer && is_limit limit)
 is_out_of_range Request = false
+is_out_of_range (CloneBuffer buffer) = not (fits buffer)
 
 -- ---- a set-up line after another kind of line
 
@@ -66,12 +67,13 @@ is_set_up form = false
 unfoldable pub is_late : State → Form → Bool
 is_late state form = is_played state && is_set_up form
 
--- ---- the 9th buffer, the 17th producer, the 65th writer
+-- ---- the 9th buffer, the 17th producer, the 65th writer, the 5th clone
 
 unfoldable pub is_too_many : State → Form → Bool
 is_too_many state (Buffer kb policy) = nat_le MAX_BUFFERS (length state.buffers)
 is_too_many state (Producer pages page_size chunks) = nat_le MAX_PRODUCERS (length state.producers)
 is_too_many state (Writer producer buffer policy) = nat_le MAX_WRITERS (length state.writers)
+is_too_many state (CloneBuffer buffer) = nat_le MAX_CLONES state.clones
 is_too_many state form = false
 
 -- ---- a reference names none
@@ -85,6 +87,7 @@ lacks_producer state form = false
 unfoldable pub lacks_buffer : State → Form → Bool
 lacks_buffer state (Writer producer buffer policy) = is_none (item state.buffers buffer)
 lacks_buffer state (Read buffer limit) = is_none (item state.buffers buffer)
+lacks_buffer state (CloneBuffer buffer) = is_none (item state.buffers buffer)
 lacks_buffer state form = false
 
 -- the line names a writer that there isn't

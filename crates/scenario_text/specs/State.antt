@@ -10,7 +10,7 @@ use Rattle.scenario_text.specs.declared.open_packet.OpenPacket.{OpenPacket}
 use Rattle.scenario_text.specs.Items.{item}
 
 -- The scenario so far; of each producer whether it is closed, and of each writer the packet that is begun, if one is;
--- and the sum of the lengths of all packets.
+-- and the sum of the lengths of all packets, and how many clones of buffers are asked for.
 pub record State : Type 0 where
   pub buffers : List BufferLine
   pub producers : List ProducerLine
@@ -19,10 +19,11 @@ pub record State : Type 0 where
   pub closed : List Bool
   pub packets : List (Option OpenPacket)
   pub bytes : ℕ
+  pub clones : ℕ
 
 -- where every scenario starts
 abbrev pub beginning : State
-beginning = record { buffers = []; producers = []; writers = []; lines = []; closed = []; packets = []; bytes = 0 }
+beginning = record { buffers = []; producers = []; writers = []; lines = []; closed = []; packets = []; bytes = 0; clones = 0 }
 
 -- some line isn't a set-up line
 abbrev pub is_played : State → Bool

@@ -12,4 +12,5 @@ state_of reader = record {
   closed = reader.closed.items;
   packets = reader.packets.items;
   bytes = reader.bytes;
+  clones = reader.clones;
 }

@@ -6,6 +6,9 @@ use trace_base::policy::FullPolicy;
 /// A writer asks its helper at most this many times for one chunk.
 pub const MAX_TRIES: u32 = 1_000_000;
 
+/// A scenario has at most this many lines `k`.
+pub const MAX_CLONES: u8 = 4;
+
 /// A line up to its FIELDS, before anything is known of what its numbers name.
 #[derive(Clone, Copy, Debug, PartialEq, Eq)]
 pub enum Form {
@@ -41,6 +44,10 @@ pub enum Form {
     },
     /// `q`
     Request,
+    /// `k B`
+    CloneBuffer {
+        buffer: Numeral,
+    },
 }
 
 /// What a writer does without a free chunk, as its line names it.

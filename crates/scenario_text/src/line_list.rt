@@ -32,6 +32,7 @@ pub(crate) enum KeptKind {
     Close { producer: u16 },
     Read { buffer: u8, high: u32, low: u32 },
     Request,
+    CloneBuffer { buffer: u8 },
 }
 
 #[derive(Clone, Copy)]
@@ -118,6 +119,7 @@ fn part_line<'c>(what: &LineKind<'c>) -> Option<Parted<'c>>
             low: (*limit % HALF) as u32,
         },
         LineKind::Request => KeptKind::Request,
+        LineKind::CloneBuffer { buffer } => KeptKind::CloneBuffer { buffer: *buffer },
     };
     Some(Parted { what, own })
 }
@@ -149,6 +151,7 @@ fn join_line(what: KeptKind, own: &[u8]) -> LineKind<'_>
             limit: u64::from(high) * HALF + u64::from(low),
         },
         KeptKind::Request => LineKind::Request,
+        KeptKind::CloneBuffer { buffer } => LineKind::CloneBuffer { buffer },
     }
 }
 

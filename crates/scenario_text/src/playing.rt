@@ -17,13 +17,13 @@ use trace_base::policy::{FullPolicy, WriterSpec};
 
 impl Reader {
     ghost use Rattle.std.specs.Prelude.{◌≡◌, ◌+◌, ◌^◌, ◌<◌, ◌≤◌, None, Some, Ok, Err, true, [], length, OnOk, IsOkUnless};
-    ghost use Rattle.scenario_text.specs.declared.form.Form.TheVariants.{Buffer, Producer, Writer, OfWriter, OfProducer, Read, Request};
+    ghost use Rattle.scenario_text.specs.declared.form.Form.TheVariants.{Buffer, Producer, Writer, OfWriter, OfProducer, Read, Request, CloneBuffer};
     ghost use Rattle.scenario_text.specs.declared.line_fault.LineFault.TheVariants.{OutOfMemory};
     ghost use Rattle.scenario_text.specs.declared.scenario.LineKind.TheVariants as kinds;
     ghost use Rattle.scenario_text.specs.Sound.{is_shallow};
     ghost use Rattle.scenario_text.specs.State.{nesting_of, len_of, packet_of};
     ghost use Rattle.scenario_text.specs.Reasons.{first, front_reasons};
-    ghost use Rattle.scenario_text.specs.Effects.{limit_of, moved, packet_after, producer_kind, served, with_closed, with_line, with_packet, written, FieldFits};
+    ghost use Rattle.scenario_text.specs.Effects.{limit_of, moved, packet_after, producer_kind, served, with_clone, with_closed, with_line, with_packet, written, FieldFits};
     ghost use Rattle.scenario_text.specs.Pieces.{fields_part};
     ghost use Rattle.scenario_text.specs.Ranges.{value};
     ghost use Rattle.scenario_text.specs.Grammar.{after_form};
@@ -88,6 +88,7 @@ impl Reader {
         ensures ok { OnOk result (state_of self.new ≡ with_line (state_of self.old) line what.entry) }
         ensures memory { IsOkUnless result OutOfMemory }
         ensures bytes { self.new.bytes ≡ self.old.bytes }
+        ensures clones { self.new.clones ≡ self.old.clones }
     {
         match self.scenario.lines.push(line, what) {
             Ok(()) => Ok(()),
@@ -194,9 +195,22 @@ impl Reader {
         self.add_line(number, LineKind::Read { buffer, limit })
     }
 
+    /// A line that asks for a clone of a buffer.
+    #[tactic(auto, using(crate::proofs::FrontLemmas::cloned_named, crate::proofs::FrontLemmas::room_for_clone), unfolding(crate::specs::Effects::with_clone))]
+    fn clone_buffer(&mut self, number: u32, buffer: Numeral) -> Result<(), LineFault>
+        requires { first (front_reasons (state_of self.old) (CloneBuffer buffer)) ≡ None }
+        ensures ok { OnOk result (state_of self.new ≡ with_clone (with_line (state_of self.old) number (kinds.CloneBuffer (value buffer)))) }
+        ensures memory { IsOkUnless result OutOfMemory }
+    {
+        let buffer = small(buffer) as u8;
+        self.add_line(number, LineKind::CloneBuffer { buffer })?;
+        self.clones += 1;
+        Ok(())
+    }
+
     /// A line of this form.
     #[inline(never)]
-    #[tactic(auto, using(crate::proofs::PlayLemmas::refused_in_front, crate::proofs::PlayLemmas::taken_buffer, crate::proofs::PlayLemmas::taken_producer, crate::proofs::PlayLemmas::taken_writer, crate::proofs::PlayLemmas::taken_step, crate::proofs::PlayLemmas::taken_read, crate::proofs::PlayLemmas::taken_request))]
+    #[tactic(auto, using(crate::proofs::PlayLemmas::refused_in_front, crate::proofs::PlayLemmas::taken_buffer, crate::proofs::PlayLemmas::taken_producer, crate::proofs::PlayLemmas::taken_writer, crate::proofs::PlayLemmas::taken_step, crate::proofs::PlayLemmas::taken_read, crate::proofs::PlayLemmas::taken_request, crate::proofs::PlayLemmas::taken_clone))]
     pub fn play(
         &mut self,
         parser: &mut FieldParser,
@@ -230,6 +244,7 @@ impl Reader {
             Form::OfProducer { producer, step } => self.serve(number, producer, step),
             Form::Read { buffer, limit } => self.read(number, buffer, limit),
             Form::Request => self.add_line(number, LineKind::Request),
+            Form::CloneBuffer { buffer } => self.clone_buffer(number, buffer),
         }
     }
 }

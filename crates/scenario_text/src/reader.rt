@@ -16,6 +16,8 @@ pub struct Reader {
     pub packets: Vec<Option<OpenPacket>>,
     /// The sum of the lengths of all packets.
     pub bytes: u32,
+    /// How many clones of buffers are asked for.
+    pub clones: u8,
     ghost sound: { IsSound scenario.buffers.items scenario.producers.items scenario.writers.items packets.items },
 }
 
@@ -38,6 +40,7 @@ impl Reader {
             closed: Vec::new(alloc),
             packets: Vec::new(alloc),
             bytes: 0,
+            clones: 0,
         }
     }
 
@@ -50,6 +53,7 @@ impl Reader {
             closed: _,
             packets: _,
             bytes: _,
+            clones: _,
         } = self;
         scenario
     }

@@ -34,6 +34,7 @@ fn service_form(word: &[u8], n: Numeral) -> Option<Form>
                 limit: None,
             });
         }
+        b"k" => return Some(Form::CloneBuffer { buffer: n }),
         _ => return None,
     };
     Some(Form::OfProducer { producer: n, step })

@@ -12,7 +12,7 @@ pub enum Reason {
     NumberOutOfRange,
     /// A set-up line after another kind of line.
     LateSetUp,
-    /// One buffer, producer or writer more than a scenario may have.
+    /// One buffer, producer, writer or clone more than a scenario may have.
     TooMany,
     NoSuchProducer,
     NoSuchBuffer,

@@ -7,7 +7,7 @@ ghost use Rattle.scenario_text.specs.Sound.{is_cut};
 ghost use Rattle.scenario_text.specs.State.{nesting_of, len_of};
 ghost use Rattle.scenario_text.specs.Reasons.{are_tries, is_limit, is_out_of_range, is_producer_in_range, is_set_up, wants_none, is_larger};
 
-use crate::form::{Form, MAX_TRIES, NamedPolicy, WriterStep};
+use crate::form::{Form, MAX_CLONES, MAX_TRIES, NamedPolicy, WriterStep};
 use crate::items::item;
 use crate::open_packet::OpenPacket;
 use crate::reader::Reader;
@@ -112,6 +112,7 @@ fn is_out_of_range(form: Form) -> bool
         Form::OfProducer { producer, step: _ } => !fits(producer),
         Form::Read { buffer, limit } => !(fits(buffer) && is_limit(limit)),
         Form::Request => false,
+        Form::CloneBuffer { buffer } => !fits(buffer),
     }
 }
 
@@ -204,6 +205,7 @@ impl Reader {
             Form::Buffer { .. } => MAX_BUFFERS <= self.scenario.buffers.len(),
             Form::Producer { .. } => MAX_PRODUCERS <= self.scenario.producers.len(),
             Form::Writer { .. } => MAX_WRITERS <= self.scenario.writers.len(),
+            Form::CloneBuffer { .. } => MAX_CLONES <= self.clones,
             _ => false,
         }
     }
@@ -261,9 +263,9 @@ impl Reader {
         ensures { result ≡ lacks_buffer (state_of self.now) form }
     {
         match form {
-            Form::Writer { buffer, .. } | Form::Read { buffer, .. } => self
-                .buffer(buffer)
-                .is_none(),
+            Form::Writer { buffer, .. }
+            | Form::Read { buffer, .. }
+            | Form::CloneBuffer { buffer } => self.buffer(buffer).is_none(),
             _ => false,
         }
     }

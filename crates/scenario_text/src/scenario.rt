@@ -36,6 +36,8 @@ pub enum LineKind<'c> {
     /// Without a number the limit is 2^64 - 1.
     Read { buffer: u8, limit: u64 },
     Request,
+    /// A copy of the buffer is made, for a consumer of its own.
+    CloneBuffer { buffer: u8 },
 }
 
 /// A played line and its place in the text, counted from 1.
