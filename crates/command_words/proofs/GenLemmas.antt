@@ -131,8 +131,9 @@ gen_values number writers packets = (refl, refl, refl)
 -- a command without numbers is taken by its name alone
 pub lone_passes : (fault_of program_app (codes "replay" ∷ []) ≡ []) × (fault_of program_app (codes "run" ∷ []) ≡ [])
     × (fault_of program_app (codes "read" ∷ []) ≡ []) × (fault_of program_app (codes "check" ∷ []) ≡ [])
+    × (fault_of program_app (codes "clone" ∷ []) ≡ [])
 unfolding clap_on_literals
-lone_passes = (refl, refl, refl, refl)
+lone_passes = (refl, refl, refl, refl, refl)
 
 pub simple_program : is_simple_and_free program_app ≡ true
 unfolding clap_on_literals
@@ -143,8 +144,9 @@ pub lone_found : (subcommand_of program_app (codes "replay" ∷ []) ≡ Some (co
     × (subcommand_of program_app (codes "run" ∷ []) ≡ Some (codes "run", []))
     × (subcommand_of program_app (codes "read" ∷ []) ≡ Some (codes "read", []))
     × (subcommand_of program_app (codes "check" ∷ []) ≡ Some (codes "check", []))
+    × (subcommand_of program_app (codes "clone" ∷ []) ≡ Some (codes "clone", []))
 unfolding clap_on_literals
-lone_found = (refl, refl, refl, refl)
+lone_found = (refl, refl, refl, refl, refl)
 
 -- what `clap` finds behind `gen`
 abbrev pub gen_rows : Text → Text → Text → List Row

@@ -1,14 +1,21 @@
 -- Words spell one command at most.
 use Rattle.std.proofs.Common.{◌≡◌, ℕ, ◌==◌, false, List, [], length, slice_index_or, refl, sym, ◌∙◌, ap, arith}
+use Rattle.std.proofs.lemmas.Bool.{eq-eqb, true≢false}
 use Rattle.std.proofs.lemmas.Fmt.{decimal_injective}
 use Rattle.command_words.specs.declared.command.Command.{Command}
-use Rattle.command_words.specs.declared.command.Command.TheVariants.{Replay, Run, Read, Check, Gen, Tune}
+use Rattle.command_words.specs.declared.command.Command.TheVariants.{Replay, Run, Read, Check, Gen, Clone, Tune}
 use Rattle.command_words.specs.Commands.{Spells, WordsSpellOneCommand}
 use Rattle.command_words.proofs.SpellLemmas.{other_length}
 
 -- the first words of two lists are as long
 heads : (one other : List (List ℕ)) → (length (slice_index_or one 0 []) == length (slice_index_or other 0 [])) ≡ false → one ≡ other → ⊥
 heads one other long same = other_length (slice_index_or one 0 []) (slice_index_or other 0 []) long (ap (λ ws. slice_index_or ws 0 []) same)
+
+-- or they have another second byte
+seconds : (one other : List (List ℕ))
+    → (slice_index_or (slice_index_or one 0 []) 1 0 == slice_index_or (slice_index_or other 0 []) 1 0) ≡ false → one ≡ other → ⊥
+seconds one other unlike same =
+    true≢false (sym (eq-eqb _ _ (ap (λ ws. slice_index_or (slice_index_or ws 0 []) 1 0) same)) ∙ unlike)
 
 once : (words : List (List ℕ)) (one other : Command) → Spells words one → Spells words other → one ≡ other
 once words Replay Replay (a, _) (b, _) = refl
@@ -45,6 +52,19 @@ once words (Tune u t) Run (a, _) (b, _) = absurd (other_length _ _ refl (sym a �
 once words (Tune u t) Read (a, _) (b, _) = absurd (other_length _ _ refl (sym a ∙ b))
 once words (Tune u t) Check (a, _) (b, _) = absurd (other_length _ _ refl (sym a ∙ b))
 once words (Tune u t) (Gen n w p) (a, _) (b, _) = absurd (other_length _ _ refl (sym a ∙ b))
+once words Clone Clone (a, _) (b, _) = refl
+once words Clone Replay (a, _) (b, _) = absurd (heads _ _ refl (sym a ∙ b))
+once words Replay Clone (a, _) (b, _) = absurd (heads _ _ refl (sym a ∙ b))
+once words Clone Run (a, _) (b, _) = absurd (heads _ _ refl (sym a ∙ b))
+once words Run Clone (a, _) (b, _) = absurd (heads _ _ refl (sym a ∙ b))
+once words Clone Read (a, _) (b, _) = absurd (heads _ _ refl (sym a ∙ b))
+once words Read Clone (a, _) (b, _) = absurd (heads _ _ refl (sym a ∙ b))
+once words Clone Check (a, _) (b, _) = absurd (seconds _ _ refl (sym a ∙ b))
+once words Check Clone (a, _) (b, _) = absurd (seconds _ _ refl (sym a ∙ b))
+once words Clone (Gen n w p) (a, _) (b, _) = absurd (other_length _ _ refl (sym a ∙ b))
+once words (Gen n w p) Clone (a, _) (b, _) = absurd (other_length _ _ refl (sym a ∙ b))
+once words Clone (Tune u t) (a, _) (b, _) = absurd (other_length _ _ refl (sym a ∙ b))
+once words (Tune u t) Clone (a, _) (b, _) = absurd (other_length _ _ refl (sym a ∙ b))
 once words (Tune u t) (Tune v s) (a, (u_some, u_few, t_some, t_few)) (b, (v_some, v_few, s_some, s_few)) =
     let same = sym a ∙ b in
     let one : u ≡ v = decimal_injective u v (omega arith) (omega arith) (ap (λ ws. slice_index_or ws 1 []) same) in

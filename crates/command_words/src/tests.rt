@@ -10,7 +10,7 @@ struct Row {
     command: Option<Command>,
 }
 
-static ROWS: [Row; 34] = [
+static ROWS: [Row; 36] = [
     Row {
         line: "replay",
         command: Some(Command::Replay),
@@ -89,6 +89,14 @@ static ROWS: [Row; 34] = [
     },
     Row {
         line: "gen 0x1 1 1",
+        command: None,
+    },
+    Row {
+        line: "clone",
+        command: Some(Command::Clone),
+    },
+    Row {
+        line: "clone 1",
         command: None,
     },
     Row {
