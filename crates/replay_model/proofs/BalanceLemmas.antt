@@ -105,6 +105,7 @@ writer_number (line.Scrape producer) = 0
 writer_number (line.Close producer) = 0
 writer_number (line.Read buffer limit) = 0
 writer_number line.Request = 0
+writer_number (line.CloneBuffer buffer) = 0
 
 own_begins : (b : Bool) (calls : List Call) → begins calls ≤ 1 → begins (cond b calls []) ≤ one_if b
 own_begins true calls few = few
@@ -127,6 +128,7 @@ line_own number (line.Scrape producer) = omega arith
 line_own number (line.Close producer) = omega arith
 line_own number (line.Read buffer limit) = omega arith
 line_own number line.Request = omega arith
+line_own number (line.CloneBuffer buffer) = omega arith
 
 lines_begin : (number : ℕ) (lines : List NumberedLine) → begins (calls_asked number lines) ≤ length lines
 lines_begin number [] = omega arith

@@ -1,6 +1,8 @@
 pub mod AccountLemmas
 pub mod BalanceLemmas
 pub mod BytesLemmas
+pub mod CloneLemmas
+pub mod CloneToldLemmas
 pub mod CompleteLemmas
 pub mod CountLemmas
 pub mod DoneLemmas

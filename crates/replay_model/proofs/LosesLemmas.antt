@@ -183,6 +183,7 @@ line_asks scenario before line.Request place =
     calls_append (map Answer (open_places before 0 scenario.writers)) (map Collect (open_producers before 1 scenario.producers)) place
     ∙ ap (λ (cs : List Call). cs ++ calls_in (map Collect (open_producers before 1 scenario.producers)) place) (answers_none (open_places before 0 scenario.writers) place)
     ∙ collects_none (open_producers before 1 scenario.producers) place
+line_asks scenario before (line.CloneBuffer buffer) place = refl
 
 lines_ask : (scenario : Parts) (before lines : List NumberedLine) (place : ℕ) → calls_in (acts_from scenario before lines) place ≡ calls_asked (suc place) lines
 lines_ask scenario before [] place = refl

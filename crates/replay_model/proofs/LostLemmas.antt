@@ -220,6 +220,7 @@ keep_line scenario before (line.Read buffer limit) = tt
 keep_line scenario before line.Request =
     keep_append (map Answer (open_places before 0 scenario.writers)) (map Collect (open_producers before 1 scenario.producers))
     (keep_answers (open_places before 0 scenario.writers)) (keep_collects (open_producers before 1 scenario.producers))
+keep_line scenario before (line.CloneBuffer buffer) = tt
 
 keep_lines : (scenario : Parts) (before lines : List NumberedLine) → KeepAll (acts_from scenario before lines)
 keep_lines scenario before [] = tt

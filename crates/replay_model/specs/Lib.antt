@@ -1,4 +1,5 @@
 pub mod Acts
+pub mod Clones
 pub mod Does
 pub mod Enough
 pub mod FlushLaws

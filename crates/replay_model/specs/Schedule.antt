@@ -63,6 +63,7 @@ acts_of scenario before (line.Close producer) = CloseProducer producer ∷ []
 acts_of scenario before (line.Read buffer limit) = ReadAll buffer limit ∷ []
 acts_of scenario before line.Request =
     Request ∷ map Answer (open_places before 0 scenario.writers) ++ map Collect (open_producers before 1 scenario.producers)
+acts_of scenario before (line.CloneBuffer buffer) = []
 
 -- the acts of these lines, one behind another
 abbrev pub acts_from : Parts → (before : List NumberedLine) → List NumberedLine → List Act

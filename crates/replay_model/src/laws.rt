@@ -1,6 +1,7 @@
 //! Laws on what acts make of a world, and on what a scenario's acts lead to: contracts of functions with
 //! nothing to do.
 ghost use Rattle.replay_model.specs.Laws.{NothingPlaysNothing, WritersWrote, WritersLose, ReplaysAreAccounts, EveryReplayIsFaithful, EveryFrontIsFaithful};
+ghost use Rattle.replay_model.specs.Clones.{NoCloneAsks, ClonesChangeNoReplay, EveryCloneTells};
 ghost use Rattle.replay_model.specs.FlushLaws.{EveryFlushStaysCut, EveryFlushIsSettled, EveryRequestIsSettled, EveryLateAnswerIsSettled};
 ghost use Rattle.replay_model.specs.Laws.{EveryReportIsBalanced, EveryReportCountsPackets, EnoughLosesNothing, EveryEnoughReplayIsComplete};
 
@@ -80,4 +81,20 @@ pub fn every_request_is_settled()
 /// whatever its writer was asked for between, and later one that reads its buffer without limit.
 pub fn every_late_answer_is_settled()
     ensures { EveryLateAnswerIsSettled }
+{}
+
+/// Lines that make clones of buffers change neither what is played nor what is emitted.
+pub fn no_clone_asks()
+    ensures { NoCloneAsks }
+{}
+
+/// So they change no replay.
+pub fn clones_change_no_replay()
+    ensures { ClonesChangeNoReplay }
+{}
+
+/// A clone that is made between any two lines tells of the packets that its writers had emitted by
+/// then.
+pub fn every_clone_tells()
+    ensures { EveryCloneTells }
 {}
