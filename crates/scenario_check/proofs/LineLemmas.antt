@@ -10,7 +10,7 @@ use Rattle.trace_model.specs.Calls.{Call}
 use Rattle.trace_model.specs.Packets.{Account, account_of, noted, nothing_yet}
 use Rattle.emitted_packets.specs.declared.emitter.Emitter.{Emitter}
 use Rattle.scenario_text.specs.declared.scenario.LineKind.{LineKind}
-use Rattle.scenario_text.specs.declared.scenario.LineKind.TheVariants.{Packet, Begin, Add, Nest, Unnest, End, Flush, Collect, Scrape, Close, Read, Request}
+use Rattle.scenario_text.specs.declared.scenario.LineKind.TheVariants.{Packet, Begin, Add, Nest, Unnest, End, Flush, Collect, Scrape, Close, Read, Request, CloneBuffer}
 use Rattle.scenario_text.specs.declared.scenario.NumberedLine.{NumberedLine}
 use Rattle.scenario_text.specs.Accepted.{line_calls, named_calls, calls_asked, AreAccepted}
 use Rattle.scenario_text.specs.Lengths.{line_len}
@@ -42,6 +42,8 @@ named_at true number (Read buffer limit) is = refl
 named_at false number (Read buffer limit) is = refl
 named_at true number Request is = refl
 named_at false number Request is = refl
+named_at true number (CloneBuffer buffer) is = refl
+named_at false number (CloneBuffer buffer) is = refl
 
 calls_own : (number : ℕ) (lines : List NumberedLine) (line : NumberedLine) → named_writer line.what ≡ number
     → calls_asked number (lines ++ line ∷ []) ≡ calls_asked number lines ++ named_calls line.what

@@ -93,6 +93,7 @@ between_lines number writers packet = record {
   closed = false ∷ [];
   packets = none_begun writers;
   bytes = bytes_asked number writers packet;
+  clones = 0;
 }
 
 get_replicate : {X : Type 0} (n i : ℕ) (x : X) → i < n → slice_get (replicate n x) i ≡ Some x

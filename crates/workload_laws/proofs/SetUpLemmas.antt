@@ -37,10 +37,11 @@ set_up writers = record {
   closed = false ∷ [];
   packets = none_begun writers;
   bytes = 0;
+  clones = 0;
 }
 
 abbrev with_buffer : State
-with_buffer = record { buffers = buffer_asked ∷ []; producers = []; writers = []; lines = []; closed = []; packets = []; bytes = 0 }
+with_buffer = record { buffers = buffer_asked ∷ []; producers = []; writers = []; lines = []; closed = []; packets = []; bytes = 0; clones = 0 }
 
 -- a line that says something, and for which no reason holds
 accepted : (state : State) (number : ℕ) (line : List ℕ) (form : Form) → says_nothing line ≡ false → form_of line ≡ Some form
