@@ -139,6 +139,10 @@ read_asks : (buffer limit : ℕ) → AsksNothing (line.Read buffer limit)
 unfolding line_calls
 read_asks buffer limit = record { none = λ number. refl; no_request = refl; due = λ number due. refl }
 
+clone_asks : (buffer : ℕ) → AsksNothing (line.CloneBuffer buffer)
+unfolding line_calls
+clone_asks buffer = record { none = λ number. refl; no_request = refl; due = λ number due. refl }
+
 module _ {T W S : Type 0} (means : Meaning T W S) (moment : Moment) (host : Host T W S) where
   comes_serving : (kind : LineKind) (acts : List Act) → moment.line.what ≡ kind → ComesNext means moment host → AsksNothing kind
       → acts_of moment.scenario moment.before kind ≡ acts → ((producer : ℕ) → closes producer kind ≡ false) → ComesServing means moment acts host
@@ -170,3 +174,9 @@ module _ {T W S : Type 0} (means : Meaning T W S) (moment : Moment) (host : Host
   unfolding closes
   comes_read buffer limit what next =
       comes_serving (line.Read buffer limit) (ReadAll buffer limit ∷ []) what next (read_asks buffer limit) refl (λ other. refl)
+
+  -- a line that makes a clone has no acts
+  pub comes_clone : (buffer : ℕ) → moment.line.what ≡ line.CloneBuffer buffer → ComesNext means moment host → ComesServing means moment [] host
+  unfolding closes
+  comes_clone buffer what next =
+      comes_serving (line.CloneBuffer buffer) [] what next (clone_asks buffer) refl (λ other. refl)

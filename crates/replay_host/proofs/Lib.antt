@@ -3,6 +3,8 @@ pub mod AskedLemmas
 pub mod BuiltLemmas
 pub mod CallLemmas
 pub mod ChosenLemmas
+pub mod CloningLemmas
+pub mod CloneMadeLemmas
 pub mod ClosedLemmas
 pub mod ClosingLemmas
 pub mod CollectedLemmas
@@ -10,6 +12,7 @@ pub mod CountingLemmas
 pub mod DueLemmas
 pub mod EndingLemmas
 pub mod FieldLemmas
+pub mod FillingLemmas
 pub mod FinishLineLemmas
 pub mod FlushedLemmas
 pub mod GoingLemmas
@@ -29,6 +32,7 @@ pub mod ReplayingLemmas
 pub mod RequestLemmas
 pub mod RestLemmas
 pub mod ResultLemmas
+pub mod RoomLemmas
 pub mod RowLemmas
 pub mod ScrapedLemmas
 pub mod ServedLemmas

@@ -1,7 +1,8 @@
 -- What was played of a scenario, from its first world on, is its replay; or it stopped at an act.
-use Rattle.std.proofs.Common.{◌≡◌, ◌∙◌, ℕ, ◌≤◌, vec_len, Some, List, [], ◌∷◌, ◌++◌, length, refl, sym, ap, subst, append_assoc, append-nil, arith}
+use Rattle.std.proofs.Common.{◌≡◌, ◌∙◌, ℕ, ◌-◌, ◌≤◌, vec_len, Some, List, [], ◌∷◌, ◌++◌, length, map, refl, sym, ap, subst, append_assoc, append-nil, arith}
 use Rattle.std.specs.List.{flat_map}
 use Rattle.std.proofs.Math.Logic.{∥∥₁_map}
+use Rattle.std.proofs.lemmas.Option.{same_Some}
 use Rattle.byte_io.specs.Bytes.{Intake, after_told}
 use Rattle.trace_base.specs.declared.limits.TheConstants.{MAX_BUFFERS}
 use Rattle.trace_base.specs.declared.policy.WriterSpec.{WriterSpec}
@@ -10,6 +11,7 @@ use Rattle.trace_model.specs.Delivery.{Delivered, IsFaithful, trace_of}
 use Rattle.trace_model.specs.History.{buffers_after, records_after}
 use Rattle.trace_buffer.specs.declared.answers.BufferCounts.{BufferCounts}
 use Rattle.scenario_text.specs.declared.scenario.NumberedLine.{NumberedLine}
+use Rattle.scenario_text.specs.Clones.{clones_in}
 use Rattle.scenario_text.specs.declared.scenario.Scenario.{Scenario}
 use Rattle.scenario_text.specs.Scenario.{Parts, IsScenario, parts_of}
 use Rattle.scenario_text.specs.Emissions.{emitted_in}
@@ -28,12 +30,14 @@ use Rattle.chunk_plain.specs.World.{World}
 use Rattle.chunk_plain.proofs.MadeLemmas.{first_owned}
 use Rattle.chunk_plain.proofs.Owned.{serviced_owned}
 use Rattle.service_core.specs.Agreement.{first_of}
+use Rattle.service_core.specs.Routing.{buffer_at}
 use Rattle.service_core.specs.Reading.{reads_in, noted_read}
 use Rattle.service_core.specs.Taking.{noted_more}
 use Rattle.loss_report.specs.declared.counts.Done.{Done}
 use Rattle.loss_report.specs.declared.counts.SequenceCounts.{SequenceCounts}
 use Rattle.loss_report.specs.Report.{report_text}
 use Rattle.replay_model.specs.Acts.{Act, Ask, Request, Answer, Collect, Scrape, CloseProducer, ReadAll}
+use Rattle.replay_model.specs.Clones.{AreMadeFor, MakeClones, ReplaysCloning}
 use Rattle.replay_model.specs.Does.{Reads}
 use Rattle.replay_model.specs.Enough.{IsPlayable}
 use Rattle.replay_model.specs.Flushes.{FlushNote}
@@ -43,11 +47,13 @@ use Rattle.replay_model.specs.Schedule.{acts_from, last_acts, schedule_of}
 use Rattle.replay_model.proofs.FrontLemmas.{every_front_is_faithful}
 use Rattle.replay_model.proofs.PlayLemmas.{plays_one, plays_both, plays_keep}
 use Rattle.replay_model.proofs.PlayedLemmas.{setup_writers}
+use Rattle.replay_model.proofs.CloneToldLemmas.{replays_cloning}
 use Rattle.replay_model.proofs.ReplayLemmas.{replays_of, scenario_is_playable}
 use Rattle.replay_host.specs.declared.fault.HostFault.{HostFault}
 use Rattle.replay_host.specs.declared.fault.HostFault.TheVariants.{OutOfMemory, WriteFault, Stalled}
 use Rattle.replay_host.specs.declared.flushes.Flushes.{Flushes}
 use Rattle.replay_host.specs.declared.host.Host.{Host}
+use Rattle.replay_host.specs.Cloning.{AreAsMade, HaveCloned}
 use Rattle.replay_host.specs.Counting.{CountsAll}
 use Rattle.replay_host.specs.Ending.{IsOver, HasEnded}
 use Rattle.replay_host.specs.Making.{IsMade}
@@ -177,6 +183,13 @@ module _ {T W S : Type 0} (means : Meaning T W S) (scenario : Scenario) (is : Is
     lines_stopped fault left stops =
         stopped fault left (stopped_more means line_acts end_acts old taken fault left (stops (parts_of scenario) (sym seen) begins))
 
+    -- the clones are as the host's buffers are made
+    pub as_made : (clones : List Buffer) → AreMadeFor (parts_of scenario) clones → AreAsMade means old lines clones
+    as_made clones made_for =
+        made_for (means.setup old.table) made.at.going.kept.laid
+        ∙ ap (λ (bs : List Buffer). map (λ (number : ℕ). buffer_at bs (number - 1)) (clones_in scenario.lines)) (sym first)
+        ∙ ap (λ (ls : List NumberedLine). map (λ (number : ℕ). buffer_at (first_of (means.setup old.table) old.helper.service) (number - 1)) (clones_in ls)) (sym seen)
+
     -- they were played, and so many buffers are to be read at the end
     module _ (mid : Host T W S) (between : Intake)
         (plays : (parts : Parts) → parts.lines ≡ lines → Begins means parts old → HavePlayed means parts old taken mid between)
@@ -300,3 +313,25 @@ module _ {T W S : Type 0} (means : Meaning T W S) (scenario : Scenario) (is : Is
               (subst (λ (setup : Setup). left ≡ after_told taken (trace_of (records_after (buffers_of parts setup)
               (history_of reached.0.service)))) (sym same) traced)
               report
+
+          -- And the clones that were filled are those of the replay.
+          pub all_cloned : (clones : List Buffer)
+              → ((parts : Parts) → parts.lines ≡ lines → Begins means parts old → HaveCloned means parts [] parts.lines old mid clones)
+              → (buffers : List BufferCounts) (sequences : List SequenceCounts) (flushes : Flushes)
+              → CountsAll means new buffers sequences flushes → flushes.made ≡ new.flushes.made
+              → vec_len flushes.chunks ≡ vec_len new.flushes.chunks
+              → ReplaysCloning (parts_of scenario) taken left (report_text buffers sequences flushes.chunks.items) clones
+          unfolding all_replayed
+          all_cloned clones cloned buffers sequences flushes counts same_made same_room =
+              let parts : Parts = parts_of scenario in
+              let way = cloned parts (sym seen) begins (first_world (means.setup old.table)) made.told in
+              let ending = ended.done.plays way.0 way.1 in
+              let last : ending.0 ≡ reached.0 = same_Some ending.0 reached.0 (sym ending.1 ∙ reached.1) in
+              replays_cloning parts taken left (report_text buffers sequences flushes.chunks.items) clones
+              (all_replayed buffers sequences flushes counts same_made same_room) way.0
+              (subst (λ (s : Setup). MakeClones parts s [] parts.lines (first_world s) way.0 clones) (sym same) way.2)
+              []
+              (subst (λ (w : World). Plays (means.setup new.table) (buffers_of parts (means.setup new.table)) (last_acts parts) way.0 w []) last
+              (subst (λ (s : Setup). Plays s (buffers_of parts s) (last_acts parts) way.0 ending.0 []) (played.done.setup_is ∙ sym same)
+              (subst (λ (bs : List Buffer). Plays (means.setup mid.table) bs (last_acts parts) way.0 ending.0 []) played.at.going.kept.first ending.2)))
+              (is_playable scenario is)

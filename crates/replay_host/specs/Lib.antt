@@ -1,6 +1,7 @@
 pub mod Answering
 pub mod Asking
 pub mod Asks
+pub mod Cloning
 pub mod Counting
 pub mod Ending
 pub mod Helping

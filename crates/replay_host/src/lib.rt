@@ -5,6 +5,7 @@
 #![tactic(auto)]
 
 mod asking;
+mod cloning;
 mod counting;
 mod ending;
 mod fault;
@@ -21,6 +22,7 @@ mod requests;
 mod serving;
 
 pub use asking::ask_one;
+pub use cloning::make_clones;
 pub use counting::{make_done, packets_left};
 pub use fault::HostFault;
 pub use fields::call_of_node;
@@ -28,4 +30,4 @@ pub use flushes::Flushes;
 pub use helper::Collecting;
 pub use host::Host;
 pub use making::{buffer_specs, count_requests, make_host, producer_specs};
-pub use replaying::replay;
+pub use replaying::{replay, replay_cloning};

@@ -227,6 +227,8 @@ impl<W: Words> Host<W, W::Writer, W::Service> {
                 self.play_request();
                 Ok(())
             }
+            // Who plays the lines fills the clone behind it.
+            LineKind::CloneBuffer { buffer: _ } => Ok(()),
         }
     }
 }

@@ -1,8 +1,10 @@
 //! The replay of a whole scenario.
 ghost use Rattle.std.specs.Prelude.{◌≡◌, ◌<◌, length, IfOk, OnOk, IfErr, vec_len};
 ghost use Rattle.loss_report.specs.Report.{report_text};
-ghost use Rattle.replay_model.specs.Played.{Replays};
+ghost use Rattle.replay_model.specs.Clones.{ReplaysCloning, AreMadeFor};
+ghost use Rattle.scenario_text.specs.Clones.{ClonesNone, without_clones};
 ghost use Rattle.scenario_text.specs.Scenario.{IsScenario, parts_of};
+ghost use Rattle.replay_host.specs.Cloning.{HasReplayedCloning};
 ghost use Rattle.replay_host.specs.Making.{IsMade};
 ghost use Rattle.replay_host.specs.Replaying.{HasReplayed, EndsEarly, CountsStop, IsStall};
 
@@ -11,6 +13,7 @@ use crate::fault::HostFault;
 use crate::flushes::Flushes;
 use crate::host::Host;
 use crate::making::make_host;
+use buffer_clone::BufferClone;
 use byte_io::traits::Sink;
 use chunk_plain::{PlainService, PlainTable, PlainWriter, Words};
 use loss_report::Done;
@@ -21,27 +24,30 @@ use std::sync::ledger::{Blank, Ledger};
 use trace_base::steps::Steps;
 
 impl<W: Words> Host<W, W::Writer, W::Service> {
-    /// Plays the lines and the end, and counts what became of packets and chunks.
+    /// Plays the lines and the end, and counts what became of packets and chunks. The clones that lines
+    /// ask for are filled on the way.
     fn play<O: Sink, L: Ledger>(
         &mut self,
         steps: &mut Steps<L>,
         scenario: &Scenario,
         done: &mut Done,
+        clones: &mut [BufferClone],
         out: &mut O,
     ) -> Result<(), HostFault>
         requires scenario { IsScenario scenario.now }
         requires made { IsMade W.means (parts_of scenario.now) self.old }
+        requires clones { AreMadeFor (parts_of scenario.now) clones.old }
         requires buffers { vec_len done.old.buffers ≡ vec_len scenario.now.buffers }
         requires sequences { vec_len done.old.sequences ≡ vec_len scenario.now.writers }
         requires may { O.may_write out.old }
-        ensures played { OnOk result (Replays (parts_of scenario.now) (O.taken out.old) (O.taken out.new)
-            (report_text done.new.buffers.items done.new.sequences.items self.new.flushes.chunks.items)) }
-        ensures stops { IfErr result (λ fault. EndsEarly (parts_of scenario.now) fault (O.taken out.old) (O.taken out.new)) }
+        ensures played { OnOk result (ReplaysCloning (parts_of scenario.now) (O.taken out.old) (O.taken out.new)
+            (report_text done.new.buffers.items done.new.sequences.items self.new.flushes.chunks.items) clones.new) }
+        ensures stops { IfErr result (λ fault. EndsEarly (without_clones (parts_of scenario.now)) fault (O.taken out.old) (O.taken out.new)) }
         ensures count { CountsStop (O.faults out.old) (O.faults out.new) result }
         ensures goes_on { OnOk result (O.may_write out.new) }
         ensures stalled { IfErr result (λ fault. IsStall fault → O.may_write out.new) }
     {
-        self.play_lines(steps, &scenario.lines, out)?;
+        self.play_lines(steps, &scenario.lines, clones, out)?;
         self.play_end(scenario.buffers.len(), out)?;
         self.count(done);
         Ok(())
@@ -75,18 +81,20 @@ fn play_made<T: Sink, L: Ledger>(
     room: Done,
     scenario: &Scenario,
     blank: Blank,
+    clones: &mut [BufferClone],
     out: &mut T,
 ) -> Result<Done, HostFault>
     requires scenario { IsScenario scenario.now }
     requires made { IsMade ⟦<PlainTable as Words>⟧.means (parts_of scenario.now) made }
+    requires clones { AreMadeFor (parts_of scenario.now) clones.old }
     requires buffers { vec_len room.buffers ≡ vec_len scenario.now.buffers }
     requires sequences { vec_len room.sequences ≡ vec_len scenario.now.writers }
     requires name { blank.name ≡ L.name }
     requires parts { blank.parts ≡ L.parts }
     requires some_part { 0 < L.parts }
     requires may { T.may_write out.old }
-    ensures done { IfOk result (λ done. HasReplayed (parts_of scenario.now) (T.taken out.old) (T.taken out.new) done) }
-    ensures stops { IfErr result (λ fault. EndsEarly (parts_of scenario.now) fault (T.taken out.old) (T.taken out.new)) }
+    ensures done { IfOk result (λ done. HasReplayedCloning (parts_of scenario.now) (T.taken out.old) (T.taken out.new) done clones.new) }
+    ensures stops { IfErr result (λ fault. EndsEarly (without_clones (parts_of scenario.now)) fault (T.taken out.old) (T.taken out.new)) }
     ensures count { CountsStop (T.faults out.old) (T.faults out.new) result }
     ensures goes_on { OnOk result (T.may_write out.new) }
     ensures stalled { IfErr result (λ fault. IsStall fault → T.may_write out.new) }
@@ -94,7 +102,7 @@ fn play_made<T: Sink, L: Ledger>(
     let mut host = made;
     let mut done = room;
     let mut steps = Steps::<L>::new(blank);
-    let played = host.play(&mut steps, scenario, &mut done, out);
+    let played = host.play(&mut steps, scenario, &mut done, clones, out);
     done.flushes = host.dismiss().chunks;
     match played {
         Ok(()) => Ok(done),
@@ -102,13 +110,20 @@ fn play_made<T: Sink, L: Ledger>(
     }
 }
 
-/// Plays a scenario into a sink, and answers what became of its packets, its chunks and its flush
-/// requests. Where it stops early, the sink has taken a front part of the trace.
-pub fn replay<T: Sink>(alloc: Global, scenario: &Scenario, out: &mut T) -> Result<Done, HostFault>
+/// Plays a scenario into a sink, fills the clones that its lines ask for, and answers what became of
+/// its packets, its chunks and its flush requests. The clones are made for the lines, in their order.
+/// Where it stops early, the sink has taken a front part of the trace.
+pub fn replay_cloning<T: Sink>(
+    alloc: Global,
+    scenario: &Scenario,
+    out: &mut T,
+    clones: &mut Vec<BufferClone>,
+) -> Result<Done, HostFault>
     requires scenario { IsScenario scenario.now }
+    requires clones { AreMadeFor (parts_of scenario.now) clones.old.items }
     requires may { T.may_write out.old }
-    ensures done { IfOk result (λ done. HasReplayed (parts_of scenario.now) (T.taken out.old) (T.taken out.new) done) }
-    ensures stops { IfErr result (λ fault. EndsEarly (parts_of scenario.now) fault (T.taken out.old) (T.taken out.new)) }
+    ensures done { IfOk result (λ done. HasReplayedCloning (parts_of scenario.now) (T.taken out.old) (T.taken out.new) done clones.new.items) }
+    ensures stops { IfErr result (λ fault. EndsEarly (without_clones (parts_of scenario.now)) fault (T.taken out.old) (T.taken out.new)) }
     ensures count { CountsStop (T.faults out.old) (T.faults out.new) result }
     ensures goes_on { OnOk result (T.may_write out.new) }
     ensures stalled { IfErr result (λ fault. IsStall fault → T.may_write out.new) }
@@ -121,5 +136,20 @@ pub fn replay<T: Sink>(alloc: Global, scenario: &Scenario, out: &mut T) -> Resul
     let Ok(made) = make_host(alloc, scenario) else {
         return Err(HostFault::OutOfMemory);
     };
-    play_made::<T, Brand>(made, room, scenario, Blank::new(1), out)
+    play_made::<T, Brand>(made, room, scenario, Blank::new(1), clones, out)
+}
+
+/// The same of a scenario whose lines ask for no clone.
+#[tactic(auto, using(crate::proofs::CloningLemmas::made_for_none, crate::proofs::CloningLemmas::replayed_alone, crate::proofs::CloningLemmas::stopped_alone))]
+pub fn replay<T: Sink>(alloc: Global, scenario: &Scenario, out: &mut T) -> Result<Done, HostFault>
+    requires scenario { IsScenario scenario.now }
+    requires clones { ClonesNone scenario.now.lines }
+    requires may { T.may_write out.old }
+    ensures done { IfOk result (λ done. HasReplayed (parts_of scenario.now) (T.taken out.old) (T.taken out.new) done) }
+    ensures stops { IfErr result (λ fault. EndsEarly (parts_of scenario.now) fault (T.taken out.old) (T.taken out.new)) }
+    ensures count { CountsStop (T.faults out.old) (T.faults out.new) result }
+    ensures goes_on { OnOk result (T.may_write out.new) }
+    ensures stalled { IfErr result (λ fault. IsStall fault → T.may_write out.new) }
+{
+    replay_cloning(alloc, scenario, out, &mut Vec::new(alloc))
 }

@@ -1,7 +1,9 @@
 -- Each kind of line is played as it says.
-use Rattle.std.proofs.Common.{◌∙◌}
+use Rattle.std.proofs.Common.{◌∙◌, [], refl}
 use Rattle.replay_host.proofs.FieldLemmas.{on_ok_map, if_err_map}
-use Rattle.replay_host.proofs.KindLemmas.{comes_packet, comes_begin, comes_fields, comes_nest, comes_unnest, comes_flush, comes_collect, comes_scrape, comes_read}
+use Rattle.replay_host.proofs.KindLemmas.{comes_packet, comes_begin, comes_fields, comes_nest, comes_unnest, comes_flush, comes_collect, comes_scrape, comes_read, comes_clone}
+use Rattle.replay_host.proofs.GoingLemmas.{done_none}
+use Rattle.replay_host.proofs.ServedLineLemmas.{served_played}
 use Rattle.replay_host.proofs.lines.Host+W+W+Writer+W+Service.play_line.Goals as goal
 
 pub play_packet-requires : goal.play_packet-requires
@@ -108,3 +110,12 @@ returns-in-Read-clause-played g c =
 pub returns-in-Read-clause-stops : goal.returns-in-Read-clause-stops
 returns-in-Read-clause-stops g c =
     if_err_map c.play_read.result _ _ c.play_read.ensures.stops (λ fault stops moment what next. stops moment (comes_read g.W.Words.means moment c.args.self.now c.in-Read.buffer c.in-Read.limit (what ∙ c.in-Read.is) next))
+
+-- nothing is done, and nothing changes
+pub returns-in-CloneBuffer-clause-played : goal.returns-in-CloneBuffer-clause-played
+returns-in-CloneBuffer-clause-played g c moment what next =
+    let means = g.W.Words.means in
+    served_played means moment [] c.args.self.now c.args.self.now (g.O.Sink.taken c.args.out.now) (g.O.Sink.taken c.args.out.now)
+    (comes_clone means moment c.args.self.now c.in-CloneBuffer.buffer (what ∙ c.in-CloneBuffer.is) next) next.at.going.kept.is_host
+    (record { writers = refl; flushes = refl; specs = refl; views = λ place core at. refl }) refl refl
+    (done_none means c.args.self.now (g.O.Sink.taken c.args.out.now))
