@@ -129,34 +129,78 @@ one_page size packet older [] none cut =
     let kept = kept_whole packet (none_lost packet older none).0 in
     absurd (subst (λ (packets : List Packet). AllZip (IsChainOf size) packets []) (ap (λ (b : Bool). cond b (packet ∷ kept_of older) (kept_of older)) kept) cut.chains)
 
-two_firsts : (size : ℕ) (p q : Packet) (chains : List Chain) → p.kept ≡ true → q.kept ≡ true → p.follows_flush ≡ true
-    → AllZip (IsChainOf size) (p ∷ q ∷ []) chains → all_begin_well size (p ∷ q ∷ []) chains ≡ true → AllStart chains → 2 ≤ chains_firsts chains
-two_firsts size p q [] kept_p kept_q flushed zip begins starts = absurd zip
-two_firsts size p q (c ∷ []) kept_p kept_q flushed zip begins starts = absurd zip.1
-two_firsts size p q (c ∷ d ∷ e ∷ chains) kept_p kept_q flushed zip begins starts = absurd zip.1.1
-two_firsts size p q (c ∷ d ∷ []) kept_p kept_q flushed zip begins starts =
-    let end : Bool = is_end size (newest_piece (d ∷ [])) in
-    let is : all_begin_well size (p ∷ q ∷ []) (c ∷ d ∷ []) ≡ (is_same (begins_chunk c) true && (is_same (begins_chunk d) true && true)) =
-    ap (λ (b : Bool). cond b (is_same (begins_chunk c) (is_lost q || (p.follows_flush || end))) (is_lost q || (p.follows_flush || is_end size (newest_piece (c ∷ d ∷ []))))
-    && all_begin_well size (q ∷ []) (cond b (d ∷ []) (c ∷ d ∷ []))) kept_p
-    ∙ ap (λ (b : Bool). is_same (begins_chunk c) (is_lost q || (b || end)) && all_begin_well size (q ∷ []) (d ∷ [])) flushed
-    ∙ ap (λ (b : Bool). is_same (begins_chunk c) b && all_begin_well size (q ∷ []) (d ∷ [])) (or-true (is_lost q))
-    ∙ ap (λ (b : Bool). is_same (begins_chunk c) true && (cond b (is_same (begins_chunk d) true) true && true)) kept_q in
-    let both = and_parts (is_same (begins_chunk c) true) (is_same (begins_chunk d) true && true) (sym is ∙ begins) in
-    let last = and_parts (is_same (begins_chunk d) true) true both.1 in
-    let one = one_first c.at c.pieces starts.0 (same_true (begins_chunk c) both.0) in
-    let other = one_first d.at d.pieces starts.1.0 (same_true (begins_chunk d) last.0) in
-    omega (arith, one, other)
+-- packets that were begun, the newest first, each but the oldest behind a flush
+abbrev pub AreFresh : List Packet → Type 0
+AreFresh [] = Unit {0}
+AreFresh (packet ∷ []) = packet.kept ≡ true
+AreFresh (packet ∷ other ∷ older) = (packet.kept ≡ true) × (packet.follows_flush ≡ true) × AreFresh (other ∷ older)
 
--- two packets that were begun, with a flush between them, have two pages, whatever was lost of them later
-pub two_kept : (size : ℕ) (p q : Packet) (pages : List Page) → p.kept ≡ true → q.kept ≡ true → p.follows_flush ≡ true → CutsInto size (p ∷ q ∷ []) pages → 2 ≤ length pages
-two_kept size p q pages kept_p kept_q flushed cut =
-    let all : kept_of (p ∷ q ∷ []) ≡ p ∷ q ∷ [] =
-    ap (λ (b : Bool). cond b (p ∷ kept_of (q ∷ [])) (kept_of (q ∷ []))) kept_p ∙ ap (λ (b : Bool). p ∷ cond b (q ∷ []) []) kept_q in
-    let zip = subst (λ (packets : List Packet). AllZip (IsChainOf size) packets (chains_of pages)) all cut.chains in
+-- each of their chains begins a chunk
+fresh_firsts : (size : ℕ) (packets : List Packet) (chains : List Chain) → AreFresh packets → AllZip (IsChainOf size) packets chains
+    → all_begin_well size packets chains ≡ true → AllStart chains → length packets ≤ chains_firsts chains
+fresh_firsts size [] chains fresh zip begins starts = omega arith
+fresh_firsts size (packet ∷ []) [] fresh zip begins starts = absurd zip
+fresh_firsts size (packet ∷ []) (chain ∷ other ∷ chains) fresh zip begins starts = absurd zip.1
+fresh_firsts size (packet ∷ []) (chain ∷ []) kept zip begins starts =
+    let is : all_begin_well size (packet ∷ []) (chain ∷ []) ≡ (is_same (begins_chunk chain) true && true) =
+    ap (λ (b : Bool). cond b (is_same (begins_chunk chain) true) true && true) kept in
+    let both = and_parts (is_same (begins_chunk chain) true) true (sym is ∙ begins) in
+    let one = one_first chain.at chain.pieces starts.0 (same_true (begins_chunk chain) both.0) in
+    omega (arith, one)
+fresh_firsts size (packet ∷ other ∷ older) [] fresh zip begins starts = absurd zip
+fresh_firsts size (packet ∷ other ∷ older) (chain ∷ chains) fresh zip begins starts =
+    let end : Bool = is_end size (newest_piece chains) in
+    let rest : Bool = all_begin_well size (other ∷ older) chains in
+    let is : all_begin_well size (packet ∷ other ∷ older) (chain ∷ chains) ≡ (is_same (begins_chunk chain) true && rest) =
+    ap (λ (b : Bool). cond b (is_same (begins_chunk chain) (is_lost other || (packet.follows_flush || end)))
+    (is_lost other || (packet.follows_flush || is_end size (newest_piece (chain ∷ chains))))
+    && all_begin_well size (other ∷ older) (cond b chains (chain ∷ chains))) fresh.0
+    ∙ ap (λ (b : Bool). is_same (begins_chunk chain) (is_lost other || (b || end)) && rest) fresh.1
+    ∙ ap (λ (b : Bool). is_same (begins_chunk chain) b && rest) (or-true (is_lost other)) in
+    let both = and_parts (is_same (begins_chunk chain) true) rest (sym is ∙ begins) in
+    let one = one_first chain.at chain.pieces starts.0 (same_true (begins_chunk chain) both.0) in
+    let others = fresh_firsts size (other ∷ older) chains fresh.2 zip.1 both.1 starts.1 in
+    omega (arith, one, others)
+
+fresh_kept : (packets : List Packet) → AreFresh packets → kept_of packets ≡ packets
+fresh_kept [] fresh = refl
+fresh_kept (packet ∷ []) kept = ap (λ (b : Bool). cond b (packet ∷ []) []) kept
+fresh_kept (packet ∷ other ∷ older) fresh =
+    ap (λ (b : Bool). cond b (packet ∷ kept_of (other ∷ older)) (kept_of (other ∷ older))) fresh.0
+    ∙ ap (λ (packets : List Packet). packet ∷ packets) (fresh_kept (other ∷ older) fresh.2)
+
+-- so they have as many pages, whatever was lost of them later
+pub fresh_pages : (size : ℕ) (packets : List Packet) (pages : List Page) → AreFresh packets → CutsInto size packets pages → length packets ≤ length pages
+fresh_pages size packets pages fresh cut =
+    let zip = subst (λ (kept : List Packet). AllZip (IsChainOf size) kept (chains_of pages)) (fresh_kept packets fresh) cut.chains in
     let firsts_are = chains_counted size pages cut.full in
-    let two = two_firsts size p q (chains_of pages) kept_p kept_q flushed zip cut.begins (chains_start pages) in
-    omega (arith, firsts_are, two)
+    let many = fresh_firsts size packets (chains_of pages) fresh zip cut.begins (chains_start pages) in
+    omega (arith, firsts_are, many)
+
+abbrev pub AllSet : List Bool → Type 0
+AllSet [] = Unit {0}
+AllSet (flag ∷ flags) = (flag ≡ true) × AllSet flags
+
+-- Packets none of which is lost, and of which each but the oldest follows a flush, were all begun so.
+pub whole_fresh : (packets : List Packet) (flags : List Bool) → map (λ (packet : Packet). packet.follows_flush) packets ≡ flags ++ false ∷ []
+    → AllSet flags → lost_count packets ≡ 0 → AreFresh packets
+whole_fresh [] [] is all none = tt
+whole_fresh [] (flag ∷ flags) is all none = tt
+whole_fresh (packet ∷ []) flags is all none = kept_whole packet (none_lost packet [] none).0
+whole_fresh (packet ∷ other ∷ older) [] is all none = absurd (let long = ap (λ (bs : List Bool). length bs) is in omega (arith, long))
+whole_fresh (packet ∷ other ∷ older) (flag ∷ flags) is all none =
+    let here = none_lost packet (other ∷ older) none in (
+      kept_whole packet here.0,
+      head is ∙ all.0,
+      whole_fresh (other ∷ older) flags (rest is) all.1 here.1,
+    )
+  where
+    head : packet.follows_flush ∷ map (λ (one : Packet). one.follows_flush) (other ∷ older) ≡ flag ∷ (flags ++ false ∷ []) → packet.follows_flush ≡ flag
+    head same = cc
+
+    rest : packet.follows_flush ∷ map (λ (one : Packet). one.follows_flush) (other ∷ older) ≡ flag ∷ (flags ++ false ∷ [])
+        → map (λ (one : Packet). one.follows_flush) (other ∷ older) ≡ flags ++ false ∷ []
+    rest same = cc
 
 -- where no packet was begun in a chunk there are no pages
 pub none_kept : (size : ℕ) (packets : List Packet) (pages : List Page) → kept_of packets ≡ [] → CutsInto size packets pages → length pages ≡ 0
@@ -167,17 +211,3 @@ none_kept size packets pages none cut =
     no_chains : (chains : List Chain) → AllZip (IsChainOf size) [] chains → chains_firsts chains ≡ 0
     no_chains [] zip = refl
     no_chains (chain ∷ chains) zip = absurd zip
-
--- two packets with a flush between them, neither of which is lost, have two pages
-pub two_pages : (size : ℕ) (packets : List Packet) (pages : List Page) → map (λ (packet : Packet). packet.follows_flush) packets ≡ true ∷ false ∷ [] → lost_count packets ≡ 0
-    → CutsInto size packets pages → 2 ≤ length pages
-two_pages size [] pages flags none cut = absurd (let long = ap (λ (bs : List Bool). length bs) flags in omega (arith, long))
-two_pages size (p ∷ []) pages flags none cut = absurd (let long = ap (λ (bs : List Bool). length bs) flags in omega (arith, long))
-two_pages size (p ∷ q ∷ r ∷ packets) pages flags none cut = absurd (let long = ap (λ (bs : List Bool). length bs) flags in omega (arith, long))
-two_pages size (p ∷ q ∷ []) pages flags none cut =
-    let first = none_lost p (q ∷ []) none in let second = none_lost q [] first.1 in
-    two_kept size p q pages (kept_whole p first.0) (kept_whole q second.0) (ap head_or flags) cut
-  where
-    head_or : List Bool → Bool
-    head_or [] = false
-    head_or (b ∷ bs) = b

@@ -2,6 +2,7 @@ pub mod InTurnLemmas
 pub mod OrderLemmas
 pub mod AskedLemmas
 pub mod AnsweredLemmas
+pub mod CollectedLemmas
 pub mod ChunkLemmas
 pub mod CompleteLemmas
 pub mod CountLemmas

@@ -4,6 +4,7 @@ use Rattle.std.specs.Prelude.{fold}
 use Rattle.std.proofs.Math.Logic.{∥∥₁_elim}
 use Rattle.std.proofs.Math.Nat.{ℕ_set}
 use Rattle.std.proofs.lemmas.Bool.{cases_eq}
+use Rattle.std.proofs.lemmas.List.{length-map}
 use Rattle.std.specs.List.{AllByRecursion, AllZip}
 use Rattle.trace_base.specs.declared.limits.TheConstants.{MAX_WRITERS}
 use Rattle.trace_base.specs.declared.policy.FullPolicy.TheVariants.{Ring}
@@ -17,7 +18,7 @@ use Rattle.chunk_plain.specs.declared.setup.ProducerSpec.{ProducerSpec}
 use Rattle.chunk_plain.specs.Laying.{setup_of}
 use Rattle.chunk_plain.specs.Letters.{AreLetters}
 use Rattle.chunk_plain.specs.Setup.{Setup, IsLaid, IsChunkOf, range_of, producer_of}
-use Rattle.chunk_plain.specs.Views.{At, BegunChunk, Held, Completed, Content}
+use Rattle.chunk_plain.specs.Views.{At, BegunChunk, Held, Completed, Content, taken_of}
 use Rattle.chunk_plain.specs.World.{World, writer}
 use Rattle.chunk_plain.specs.Owned.{held_count}
 use Rattle.scenario_text.specs.declared.scenario.NumberedLine.{NumberedLine}
@@ -29,15 +30,15 @@ use Rattle.scenario_text.specs.Scenario.{Parts}
 use Rattle.replay_model.specs.Flushes.{requests_in}
 use Rattle.replay_model.specs.Played.{IsSpecOf}
 use Rattle.replay_model.proofs.AccountLemmas.{pages_begun}
-use Rattle.run_model.specs.Collected.{CollectedByLines, may_be_collected}
+use Rattle.run_model.specs.Collected.{CollectedByLines, has_asker, may_be_collected, taken_by_lines, times_in}
 use Rattle.run_model.specs.Noted.{done_calls}
 use Rattle.run_model.specs.Settled.{HasDoneAll, IsRun, last_flushes}
-use Rattle.run_model.specs.Worked.{over_one_chunk, dropping, stalling, two_packets, flushed_between, beside_idle, one_of_each, OneChunkHoldsOnePacket}
+use Rattle.run_model.specs.Worked.{over_one_chunk, dropping, stalling, two_packets, flushed_between, beside_idle, one_of_each, collected_once, OneChunkHoldsOnePacket, OneCollectFreesOneChunk}
 use Rattle.run_model.proofs.AnsweredLemmas.{none_answered, out_none}
 use Rattle.run_model.proofs.AskedLemmas.{Flags, flag_after, flags_are, packet_flag, flags_behind}
-use Rattle.run_model.proofs.ChunkLemmas.{uses_once}
+use Rattle.run_model.proofs.ChunkLemmas.{left_are_apart, uses_once}
 use Rattle.run_model.proofs.FirstKeptLemmas.{BeginsFirst, begins_first, begun_first, first_of_two}
-use Rattle.run_model.proofs.FreshLemmas.{one_page, two_pages, two_kept}
+use Rattle.run_model.proofs.FreshLemmas.{AllSet, fresh_pages, one_page, whole_fresh}
 use Rattle.run_model.proofs.RunLemmas.{laid_out, wrote}
 
 -- what a writer that holds no chunk has begun it has completed, in a chunk of its own producer
@@ -87,14 +88,25 @@ module _ (writers : List WriterSpec) (lines : List NumberedLine) (set_up : IsSet
       uses_once (over_one_chunk writers lines) setup world closed done collected place other id more 0 one.0 two.0 inside within
       (ap (may_be_collected setup lines) of_one ∙ none) (ap (may_be_collected setup lines) to_one ∙ none) one.1 two.1
 
+  -- nor two that nobody had taken once the threads were done
+  left_entry : (place id more : ℕ) → place < length setup.writers → producer_of setup place ≡ 1 → (taken_of done.stood.service place).count ≤ id
+      → (taken_of done.stood.service place).count ≤ more → id < length (writer world place).begun → more < length (writer world place).begun → id ≡ more
+  left_entry place id more inside of_one left beside low under =
+      let one = entry place inside of_one id low in let two = entry place inside of_one more under in
+      (left_are_apart (over_one_chunk writers lines) setup world closed done place place id more 0 one.0 two.0 inside inside left beside one.1 two.1).1
+
   -- as many chunks were begun as there are pages
-  two_begun : (place : ℕ) → place < length setup.writers → map (λ (packet : Packet). packet.follows_flush) (packets_of (writer world place).calls) ≡ true ∷ false ∷ []
-      → lost_count (packets_of (writer world place).calls) ≡ 0 → 2 ≤ length (writer world place).begun
-  two_begun place inside flags none =
+  flushed_begun : (place : ℕ) → place < length setup.writers → (flags : List Bool) → AllSet flags
+      → map (λ (packet : Packet). packet.follows_flush) (packets_of (writer world place).calls) ≡ flags ++ false ∷ []
+      → lost_count (packets_of (writer world place).calls) ≡ 0 → length (flags ++ false ∷ []) ≤ length (writer world place).begun
+  flushed_begun place inside flags all is none =
+      let packets : List Packet = packets_of (writer world place).calls in
       let own = wrote (over_one_chunk writers lines) setup world closed done laid place inside in
       let pages = pages_begun setup place (writer world place) own in
-      let two = two_pages _ (packets_of (writer world place).calls) own.cut.cut.pages flags none own.cut.cut.cut in
-      omega (arith, pages, two)
+      let many = fresh_pages _ packets own.cut.cut.pages (whole_fresh packets flags is all none) own.cut.cut.cut in
+      let long = ap (λ (bs : List Bool). length bs) is in
+      let same = length-map packets (λ (packet : Packet). packet.follows_flush) in
+      omega (arith, pages, many, long, same)
 
   one_begun : (place : ℕ) → place < length setup.writers → map (λ (packet : Packet). packet.follows_flush) (packets_of (writer world place).calls) ≡ false ∷ []
       → lost_count (packets_of (writer world place).calls) ≡ 0 → 1 ≤ length (writer world place).begun
@@ -198,7 +210,7 @@ flushed_beside others at first second setup world run fits alone = by_count (cas
         let nobody : may_be_collected setup lines 1 ≡ false = ap (λ (s : Setup). may_be_collected s lines 1) laid_is ∙ alone done.setup_is.specs in
         let flags = flags_are (writer world 0).calls (calls_asked 1 lines ++ last_flushes) (asked_all (over_one_chunk writers lines) setup world run refl 0 inside)
         ∙ ap (λ (f : Flags). f.0) (flushed_flags at first second) in
-        let two = two_begun writers lines fits setup world _ done run.before.taken_by.collected 0 inside flags none in
+        let two = flushed_begun writers lines fits setup world _ done run.before.taken_by.collected 0 inside (true ∷ []) (refl, tt) flags none in
         let same = one_entry writers lines fits setup world _ done run.before.taken_by.collected 0 0 0 1 inside inside of_one of_one nobody
         (omega (arith, two)) (omega (arith, two)) in
         absurd (let clash = same.1 in omega (arith, clash))
@@ -278,7 +290,7 @@ first_kept first second setup world run = by_packets (packets_of (writer world 0
         by_kept true new =
             let own_cut = wrote (flushed_between first second) setup world _ run.before.done (laid (dropping ∷ []) (flushed_between first second).lines fits setup world _ run.before.done run.before.taken_by.collected) 0 inside in
             let pages = pages_begun setup 0 (writer world 0) own_cut in
-            let two = two_kept (payload_at setup 0) p q own_cut.cut.cut.pages new old follows
+            let two = fresh_pages (payload_at setup 0) (p ∷ q ∷ []) own_cut.cut.cut.pages (new, follows, old)
             (subst (λ (ps : List Packet). CutsInto (payload_at setup 0) ps own_cut.cut.cut.pages) is own_cut.cut.cut.cut) in
             let same = one_entry (dropping ∷ []) (flushed_between first second).lines fits setup world _ run.before.done run.before.taken_by.collected 0 0 0 1 inside inside of_one of_one nobody
             (omega (arith, two, pages)) (omega (arith, two, pages)) in
@@ -326,3 +338,43 @@ each first second setup world run = by_count (cases_eq (lost_count (packets_of (
 
 pub one_chunk_holds_one_packet : OneChunkHoldsOnePacket
 one_chunk_holds_one_packet = record { flushed = flushed; first_kept = first_kept; idle = idle; each = each }
+
+-- ---- three packets, and a line that collects
+
+collected_flags : (first second third : List Shown)
+    → fold flag_after ([], false) (calls_asked 1 (collected_once first second third).lines ++ last_flushes) ≡ (true ∷ true ∷ false ∷ [], true)
+unfolding line_calls
+collected_flags first second third =
+    let one : List Call = Begun true ∷ map node_call first ++ Finished ∷ [] in let two : List Call = Begun true ∷ map node_call second ++ Finished ∷ [] in
+    let three : List Call = Begun true ∷ map node_call third ++ Finished ∷ [] in
+    let last : List Call = Flushed ∷ [] ++ (three ++ []) in
+    let rest : List Call = Flushed ∷ [] ++ (two ++ last) in
+    flags_behind (one ++ rest) last_flushes ([], false) (true ∷ true ∷ false ∷ [], false)
+    (flags_behind one rest ([], false) (false ∷ [], false) (packet_flag first ([], false))
+    ∙ flags_behind two last (false ∷ [], true) (true ∷ false ∷ [], false) (packet_flag second (false ∷ [], true))
+    ∙ flags_behind three [] (true ∷ false ∷ [], true) (true ∷ true ∷ false ∷ [], false) (packet_flag third (true ∷ false ∷ [], true)))
+
+pub one_collect_frees_one_chunk : OneCollectFreesOneChunk
+one_collect_frees_one_chunk first second third setup world run = by_count (cases_eq (lost_count (packets_of (writer world 0).calls)) 0)
+  where
+    by_count : (lost_count (packets_of (writer world 0).calls) ≡ 0) ⊎ (lost_count (packets_of (writer world 0).calls) ≡ 0 → ⊥)
+        → 0 < lost_count (packets_of (writer world 0).calls)
+    by_count (inr more) = omega (arith, more)
+    by_count (inl none) =
+        let done = run.before.done in let lines = (collected_once first second third).lines in let writers = dropping ∷ [] in
+        let collected = run.before.taken_by.collected in
+        let laid_is = done.setup_is.laid in
+        let inside : 0 < length setup.writers = let many = ap (λ (s : Setup). length s.writers) laid_is in omega (arith, many) in
+        let of_one : producer_of setup 0 ≡ 1 = ap (λ (s : Setup). producer_of s 0) laid_is in
+        let nobody : has_asker setup lines 1 ≡ false = ap (λ (s : Setup). has_asker s lines 1) laid_is in
+        let count : (range_of setup 1).count ≡ 1 = ap (λ (s : Setup). (range_of s 1).count) laid_is ∙ (one_range writers done.setup_is.specs done.setup_is.made).1 in
+        let times : times_in (producer_of setup 0) (taken_by_lines lines) * (range_of setup (producer_of setup 0)).count ≡ 1 =
+        ap (λ (n : ℕ). times_in n (taken_by_lines lines) * (range_of setup n).count) of_one ∙ ap (λ (n : ℕ). 1 * n) count in
+        let most = collected 0 inside (ap (has_asker setup lines) of_one ∙ nobody) in
+        let fits = set_up writers lines (omega arith) (a_writer lines, tt) in
+        let flags = flags_are (writer world 0).calls (calls_asked 1 lines ++ last_flushes) (asked_all (collected_once first second third) setup world run refl 0 inside)
+        ∙ ap (λ (f : Flags). f.0) (collected_flags first second third) in
+        let three = flushed_begun writers lines fits setup world _ done collected 0 inside (true ∷ true ∷ []) (refl, (refl, tt)) flags none in
+        let same = left_entry writers lines fits setup world _ done collected 0 1 2 inside of_one (omega (arith, most, times)) (omega (arith, most, times))
+        (omega (arith, three)) (omega (arith, three)) in
+        absurd (omega (arith, same))

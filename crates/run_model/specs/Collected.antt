@@ -1,9 +1,9 @@
 -- Of which writers a run may take chunks while its threads run, and how the rest is taken behind them.
-use Rattle.std.specs.Prelude.{◌≡◌, ℕ, suc, ◌<◌, ◌==◌, ◌&&◌, ◌||◌, Bool, true, false, List, length}
-use Rattle.std.specs.List.{list_any}
+use Rattle.std.specs.Prelude.{◌≡◌, ℕ, suc, ◌+◌, ◌*◌, ◌<◌, ◌≤◌, ◌==◌, ◌&&◌, ◌||◌, Bool, true, false, List, [], ◌∷◌, length, if◌then◌else◌}
+use Rattle.std.specs.List.{flat_map, list_any}
 use Rattle.trace_base.specs.declared.policy.WriterPolicy.{WriterPolicy}
 use Rattle.trace_base.specs.declared.policy.WriterPolicy.TheVariants.{Drops, Stalls, StallsThenDrops}
-use Rattle.chunk_plain.specs.Setup.{Setup, producer_of}
+use Rattle.chunk_plain.specs.Setup.{Setup, producer_of, range_of}
 use Rattle.chunk_plain.specs.Views.{ServiceView, taken_of}
 use Rattle.scenario_text.specs.declared.scenario.LineKind.{LineKind}
 use Rattle.scenario_text.specs.declared.scenario.LineKind.TheVariants as line
@@ -43,20 +43,45 @@ begins_packets number lines = list_any begins_packet (own_kinds number lines)
 abbrev pub may_ask : Setup → List NumberedLine → (place : ℕ) → Bool
 may_ask setup lines place = asks_help (spec_at setup.writers place).policy && begins_packets (suc place) lines
 
+-- whether one of the producer's writers does
+abbrev pub has_asker : Setup → List NumberedLine → (producer : ℕ) → Bool
+has_asker setup lines producer = list_any (may_ask setup lines) (places_of producer 0 setup.writers)
+
 -- Somebody may have the producer's chunks taken while the threads run: a line that collects it; one that scrapes it, which collects first;
 -- or one of its own writers, which asks for help. (No line of a run closes a producer.)
 abbrev pub may_be_collected : Setup → List NumberedLine → (producer : ℕ) → Bool
 may_be_collected setup lines producer =
-    is_collected_by lines producer || (is_scraped_by lines producer || list_any (may_ask setup lines) (places_of producer 0 setup.writers))
+    is_collected_by lines producer || (is_scraped_by lines producer || has_asker setup lines producer)
 
--- Nothing was taken of a writer whose producer nobody may have collected.
+-- the producer whose chunks a line has taken: one that collects, and one that scrapes, which collects first
+abbrev pub taken_by_line : LineKind → List ℕ
+taken_by_line (line.Collect producer) = producer ∷ []
+taken_by_line (line.Scrape producer) = producer ∷ []
+taken_by_line other = []
+
+-- the producers whose chunks these lines have taken, in their order
+abbrev pub taken_by_lines : List NumberedLine → List ℕ
+taken_by_lines lines = flat_map (λ (one : NumberedLine). taken_by_line one.what) lines
+
+-- how often a producer stands among some
+abbrev pub times_in : (producer : ℕ) → List ℕ → ℕ
+times_in producer [] = 0
+times_in producer (one ∷ others) = (if one == producer then 1 else 0) + times_in producer others
+
+-- Of a writer at most so many chunks were taken as its producer has, times how often the producer stands among these. Of one of whose producer's
+-- writers one asks for help nothing is said.
+abbrev pub TakenAtMost : Setup → List NumberedLine → (producers : List ℕ) → ServiceView → Type 0
+TakenAtMost setup lines producers view =
+    (place : ℕ) → place < length setup.writers → has_asker setup lines (producer_of setup place) ≡ false
+    → (taken_of view place).count ≤ times_in (producer_of setup place) producers * (range_of setup (producer_of setup place)).count
+
+-- Where none of a producer's writers asks for help, no more chunks of a writer are taken than lines allow that collect or scrape it, each of them as
+-- many as there are: so none where no line does.
 abbrev pub CollectedByLines : Setup → List NumberedLine → ServiceView → Type 0
-CollectedByLines setup lines view =
-    (place : ℕ) → place < length setup.writers → may_be_collected setup lines (producer_of setup place) ≡ false
-    → (taken_of view place).count ≡ 0
+CollectedByLines setup lines view = TakenAtMost setup lines (taken_by_lines lines) view
 
--- How all came to be taken that was, where this is what the service knew once the threads were done. While they ran, nothing was taken of a
--- writer whose producer nobody may have collected. What was left was taken then, producer by producer in rising number.
+-- How all came to be taken that was, where this is what the service knew once the threads were done. While they ran, no more chunks of a writer were
+-- taken than lines allow, where no writer of its producer asks for help. What was left was taken then, producer by producer in rising number.
 pub record IsTakenBy (setup : Setup) (lines : List NumberedLine) (ran settled : ServiceView) : Type 0 where
   pub collected : CollectedByLines setup lines ran
   pub settles : TakesAllOut setup (length setup.ranges) ran settled

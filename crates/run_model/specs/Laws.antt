@@ -4,7 +4,7 @@ use Rattle.trace_model.specs.Balance.{PacketCounts}
 use Rattle.trace_model.specs.Counts.{last_count}
 use Rattle.trace_model.specs.Delivery.{Delivered, IsFaithful, IsComplete}
 use Rattle.chunk_plain.specs.Setup.{Setup, producer_of}
-use Rattle.chunk_plain.specs.Views.{At, Ask, Content, Completed}
+use Rattle.chunk_plain.specs.Views.{At, Ask, Content, Completed, taken_of}
 use Rattle.chunk_plain.specs.World.{World, writer}
 use Rattle.chunk_plain.specs.Plain.{first_world}
 use Rattle.chunk_schedules.specs.Moves.{Move}
@@ -49,6 +49,23 @@ EveryRunCountsPackets = (scenario : Parts) (setup : Setup) (world : World) → I
 abbrev pub EveryEnoughRunIsComplete : Type 0
 EveryEnoughRunIsComplete = (scenario : Parts) (setup : Setup) (world : World) → IsRun scenario setup world
     → IsPlayable scenario → HasEnough scenario → IsComplete (emitted_in scenario) (records_in scenario setup world)
+
+-- What writers completed and the service hadn't taken by the world that is marked once the threads are done stands in chunks of their own: none of
+-- them is free again by then.
+abbrev pub LeftAreApart : Setup → (stood world : World) → Type 0
+LeftAreApart setup stood world =
+    (place other id more chunk : ℕ) (content known : Content) → place < length setup.writers → other < length setup.writers
+    → (taken_of stood.service place).count ≤ id → (taken_of stood.service other).count ≤ more
+    → At (writer world place).begun id (Completed chunk content) → At (writer world other).begun more (Completed chunk known)
+    → (place ≡ other) × (id ≡ more)
+
+-- So it is in each run, whole or up to a write that failed, in the reads of its lines or in those of the end.
+pub record LeftChunksAreApart : Type 0 where
+  pub run : (scenario : Parts) (setup : Setup) (world : World) (is : IsRun scenario setup world) → LeftAreApart setup is.before.done.stood world
+  pub in_lines : (scenario : Parts) (setup : Setup) (world : World) (next : Delivered) (stops : StopsInLines scenario setup world next)
+      → LeftAreApart setup stops.done.stood world
+  pub in_end : (scenario : Parts) (setup : Setup) (world : World) (next : Delivered) (stops : StopsInEnd scenario setup world next)
+      → LeftAreApart setup stops.before.done.stood world
 
 -- Each chunk of a producer that no line collects or scrapes, and none of whose writers asks for help, is begun once at most, by one of its writers.
 abbrev pub UsesOnce : Setup → List NumberedLine → World → Type 0

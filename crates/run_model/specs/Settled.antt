@@ -100,9 +100,8 @@ ReadsTo setup first (suc number) reads old new =
     × (let here = reads_in setup (buffers_after first (history_of between)) (suc number) last_count in
     (reads ≡ earlier ++ here) × (new ≡ noted_more between (flat_map noted_read here)))
 
--- All was done and taken, and then each producer closed. Nothing of a producer that no line collects or scrapes, and none of whose writers
--- asks for help, was taken before the threads were done, and what was left then was taken producer by producer in rising number. The reads until
--- then are those of the read lines in their order, each by what its buffer held when the line was played.
+-- All was done and taken, and then each producer closed. Of a producer none of whose writers asks for help no more chunks of a writer were taken
+-- before the threads were done than lines allow that collect or scrape it; what was left then was taken producer by producer in rising number. The reads until then are those of the read lines in their order, each by what its buffer held when the line was played.
 pub record HasClosedAll (scenario : Parts) (setup : Setup) (world : World) : Type 0 where
   pub done : HasDoneAll scenario setup world true
   -- the service once all was taken, and once all sequences were closed
@@ -120,11 +119,10 @@ pub record HasClosedAll (scenario : Parts) (setup : Setup) (world : World) : Typ
 -- The scenario was run, and all is settled. Its writers and its service are those of one owned world, to which a schedule of their steps
 -- leads from a table as it is made, by way of a world in which each writer had completed all that it completes. Each writer has done its
 -- lines, and all that it completed was taken. What was noted on each sequence is in order, and finished fragments of a chunk before it was
--- complete only where a line scrapes the writer's producer. Nothing of a producer that no line collects or scrapes, and none of whose
--- writers asks for help, was taken before the threads were done, and what was left then was taken producer by producer in rising number. The reads
--- are those of the read lines in their order, each by what its buffer held when the line was played, and then those of the end, where each
--- producer is closed and then each buffer read without limit. As many flush requests were made as lines ask for, and the service has read of each
--- writer an answer to the last one.
+-- complete only where a line scrapes the writer's producer. Of a producer none of whose writers asks for help no more chunks of a writer were taken
+-- before the threads were done than lines allow that collect or scrape it; what was left then was taken producer by producer in rising number. The reads are those of the read lines in their order, each by what its buffer held when the line was played, and then those of the end,
+-- where each producer is closed and then each buffer read without limit. As many flush requests were made as lines ask for, and the service has read of
+-- each writer an answer to the last one.
 pub record IsRun (scenario : Parts) (setup : Setup) (world : World) : Type 0 where
   pub before : HasClosedAll scenario setup world
   pub answered : HasAnsweredAll scenario setup world.service

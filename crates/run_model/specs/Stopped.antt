@@ -19,9 +19,9 @@ use Rattle.run_model.specs.Collected.{IsTakenBy}
 use Rattle.run_model.specs.Reads.{GoesUpTo, ReadsUpTo}
 use Rattle.run_model.specs.Settled.{HasDoneAll, HasClosedAll, ReadsTo}
 
--- A write failed in the reads of the lines: they went as far as this record, and nothing was read behind that. No sequence is closed. Nothing
--- of a producer that no line collects or scrapes, and none of whose writers asks for help, was taken before the threads were done, and what was
--- left then was taken producer by producer in rising number.
+-- A write failed in the reads of the lines: they went as far as this record, and nothing was read behind that. No sequence is closed. Of
+-- a producer none of whose writers asks for help no more chunks of a writer were taken before the threads were done than all lines allow that collect or
+-- scrape it; what was left then was taken producer by producer in rising number.
 pub record StopsInLines (scenario : Parts) (setup : Setup) (world : World) (next : Delivered) : Type 0 where
   pub done : HasDoneAll scenario setup world false
   pub taken_by : IsTakenBy setup scenario.lines done.stood.service world.service

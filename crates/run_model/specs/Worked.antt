@@ -1,4 +1,5 @@
--- Three scenarios over one chunk that nobody has collected, in which more packets can't be delivered than there are chunks.
+-- Scenarios over one chunk, in which more packets can't be delivered than there are chunks: three in which nobody has it collected, and one with a
+-- line that does.
 use Rattle.std.specs.Prelude.{◌≡◌, ℕ, ◌+◌, ◌<◌, true, false, List, [], ◌∷◌, map}
 use Rattle.trace_base.specs.declared.policy.FullPolicy.TheVariants.{Ring}
 use Rattle.trace_base.specs.declared.policy.WriterPolicy.TheVariants.{Drops, Stalls}
@@ -7,7 +8,7 @@ use Rattle.trace_model.specs.Packets.{Packet as PacketOf, packets_of, lost_count
 use Rattle.field_tree.specs.Nodes.{Shown}
 use Rattle.chunk_plain.specs.Setup.{Setup}
 use Rattle.chunk_plain.specs.World.{World, writer}
-use Rattle.scenario_text.specs.declared.scenario.LineKind.TheVariants.{Packet, Flush}
+use Rattle.scenario_text.specs.declared.scenario.LineKind.TheVariants.{Packet, Flush, Collect}
 use Rattle.scenario_text.specs.declared.scenario.NumberedLine.{NumberedLine}
 use Rattle.scenario_text.specs.Scenario.{Parts}
 use Rattle.run_model.specs.Settled.{IsRun}
@@ -48,7 +49,14 @@ one_of_each first second =
     over_one_chunk (dropping ∷ dropping ∷ [])
     (record { line = 5; what = Packet 1 first } ∷ record { line = 6; what = Packet 2 second } ∷ [])
 
--- In each run of each a packet is lost: the account in which both are delivered is refused. Where a writer is alone it is the second of its two:
+-- three packets of one writer, with flushes between them, and a line that collects its producer
+abbrev pub collected_once : (first second third : List Shown) → Parts
+collected_once first second third =
+    over_one_chunk (dropping ∷ [])
+    (record { line = 4; what = Packet 1 first } ∷ record { line = 5; what = Flush 1 } ∷ record { line = 6; what = Packet 1 second }
+    ∷ record { line = 7; what = Flush 1 } ∷ record { line = 8; what = Packet 1 third } ∷ record { line = 9; what = Collect 1 } ∷ [])
+
+-- In each run of each of the first three a packet is lost: the account in which both are delivered is refused. Where a writer is alone it is the second of its two:
 -- the first was begun in the chunk, and the second dropped at its begin. (The newest packet stands first.)
 pub record OneChunkHoldsOnePacket : Type 0 where
   pub flushed : (first second : List Shown) (setup : Setup) (world : World) → IsRun (flushed_between first second) setup world
@@ -59,3 +67,8 @@ pub record OneChunkHoldsOnePacket : Type 0 where
       → 0 < lost_count (packets_of (writer world 0).calls)
   pub each : (first second : List Shown) (setup : Setup) (world : World) → IsRun (one_of_each first second) setup world
       → 0 < lost_count (packets_of (writer world 0).calls) + lost_count (packets_of (writer world 1).calls)
+
+-- In each run of the last one is lost too: the line has the one chunk taken once at most, so it is free for no more than two packets.
+abbrev pub OneCollectFreesOneChunk : Type 0
+OneCollectFreesOneChunk = (first second third : List Shown) (setup : Setup) (world : World) → IsRun (collected_once first second third) setup world
+    → 0 < lost_count (packets_of (writer world 0).calls)

@@ -1,7 +1,7 @@
 -- Worked examples of what a report says of flush requests, and of which of a writer's calls are the flushes of its answers.
 use Rattle.std.specs.Prelude.{◌≡◌, true, List, [], ◌∷◌}
 use Rattle.trace_model.specs.Calls.{Call, Begun, Number, Finished, Flushed}
-use Rattle.chunk_plain.specs.Views.{Letter, Asked, Heard, Reply}
+use Rattle.chunk_plain.specs.Views.{Asked, Heard, Reply}
 use Rattle.run_model.specs.Answered.{run_sums, without_answers}
 
 -- a packet, a flush that a line asked for, and two flushes of answers: one behind the packet, one behind the line's flush

@@ -1,7 +1,7 @@
 //! The laws: contracts of functions with nothing to do.
-ghost use Rattle.run_model.specs.Laws.{EveryRunIsFaithful, EveryStoppedRunIsFaithful, EveryRunIsBalanced, EveryRunCountsPackets, EveryEnoughRunIsComplete, UncollectedChunksAreUsedOnce, NothingIsBegunBehindLosses, LostClaimsFindHad};
+ghost use Rattle.run_model.specs.Laws.{EveryRunIsFaithful, EveryStoppedRunIsFaithful, EveryRunIsBalanced, EveryRunCountsPackets, EveryEnoughRunIsComplete, LeftChunksAreApart, UncollectedChunksAreUsedOnce, NothingIsBegunBehindLosses, LostClaimsFindHad};
 ghost use Rattle.run_model.specs.FlushLaws.{EveryRunFlushIsSettled};
-ghost use Rattle.run_model.specs.Worked.{OneChunkHoldsOnePacket};
+ghost use Rattle.run_model.specs.Worked.{OneChunkHoldsOnePacket, OneCollectFreesOneChunk};
 ghost use Rattle.run_model.specs.WorkedAnswers.{WorkedAnswers};
 
 /// The records of a run are faithful to the packets that the lines have writers emit.
@@ -40,6 +40,11 @@ pub fn worked_answers()
     ensures { WorkedAnswers }
 {}
 
+/// What writers completed and nobody took until the threads were done is in chunks of its own.
+pub fn left_chunks_are_apart()
+    ensures { LeftChunksAreApart }
+{}
+
 /// Of a producer that nobody has collected each chunk is used once at most.
 pub fn uncollected_chunks_are_used_once()
     ensures { UncollectedChunksAreUsedOnce }
@@ -60,4 +65,9 @@ pub fn lost_claims_find_had()
 /// computed.
 pub fn one_chunk_holds_one_packet()
     ensures { OneChunkHoldsOnePacket }
+{}
+
+/// Over one chunk with one line that collects it three packets aren't all delivered: a scenario, computed.
+pub fn one_collect_frees_one_chunk()
+    ensures { OneCollectFreesOneChunk }
 {}

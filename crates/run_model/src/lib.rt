@@ -12,6 +12,7 @@ mod laws;
 pub use laws::{
     every_enough_run_is_complete, every_run_counts_packets, every_run_flush_is_settled,
     every_run_is_balanced, every_run_is_faithful, every_stopped_run_is_faithful,
-    lost_claims_find_had, nothing_is_begun_behind_losses, one_chunk_holds_one_packet,
-    uncollected_chunks_are_used_once, worked_answers,
+    left_chunks_are_apart, lost_claims_find_had, nothing_is_begun_behind_losses,
+    one_chunk_holds_one_packet, one_collect_frees_one_chunk, uncollected_chunks_are_used_once,
+    worked_answers,
 };
