@@ -26,6 +26,7 @@ use Rattle.run_model.specs.Stopped.{ReadsSomeTo}
 use Rattle.thread_service.specs.Reading.{GoesUnread, PassReads}
 use Rattle.thread_host.specs.Finishing.{ReadsOut}
 use Rattle.thread_host.specs.Jobs.{TellsReads}
+use Rattle.thread_host.proofs.Ordered.{takes_letters}
 use Rattle.thread_host.proofs.Telling.{none_tells, tells_both, read_tells}
 
 -- ---- no count falls
@@ -50,11 +51,6 @@ closes_own setup (suc number) old new closes =
     let last = closes.3 in
     ap (λ (v : ServiceView). v.commits) last.view
     ∙ takes_own setup (places_of (suc number) 0 setup.writers) closes.1 closes.0 last.between last.takes ∙ closes_own setup number old closes.0 closes.2
-
-takes_letters : (setup : Setup) (places : List ℕ) (taken : ℕ) (old new : ServiceView) → Takes setup places taken old new → new.letters ≡ old.letters
-takes_letters setup [] taken old new takes = ap (λ (v : ServiceView). v.letters) takes.1
-takes_letters setup (place ∷ places) taken old new takes =
-    takes_letters setup places takes.1 takes.2 new takes.5 ∙ ap (λ (v : ServiceView). v.letters) takes.4.view
 
 -- no flush request is made, and no answer read
 pub closes_letters : (setup : Setup) (number : ℕ) (old new : ServiceView) → ClosesTo setup number old new → new.letters ≡ old.letters

@@ -3,7 +3,7 @@ use Rattle.std.proofs.Common.{◌≡◌, ◌≤◌, ◌+◌, ◌-◌, ℕ, suc, 
 use Rattle.std.proofs.lemmas.List.Sums.{sum_by-append, sum_by-cons}
 use Rattle.trace_model.specs.Counts.{raised, last_count}
 use Rattle.scenario_text.specs.declared.scenario.LineKind.{LineKind}
-use Rattle.scenario_text.specs.declared.scenario.LineKind.TheVariants.{Packet, Begin, Add, Nest, Unnest, End, Flush, Collect, Scrape, Close, Read, Request}
+use Rattle.scenario_text.specs.declared.scenario.LineKind.TheVariants.{Packet, Begin, Add, Nest, Unnest, End, Flush, Collect, Scrape, Close, Read, Request, CloneBuffer}
 use Rattle.scenario_text.specs.declared.scenario.NumberedLine.{NumberedLine}
 use Rattle.replay_model.specs.Flushes.{request_count, requests_in}
 use Rattle.thread_host.specs.Jobs.{readings_of, readings_in, takings_of, takings_in}
@@ -36,6 +36,7 @@ none_asked (Scrape producer) collects scrapes = absurd (scrapes producer refl)
 none_asked (Close producer) collects scrapes = refl
 none_asked (Read buffer limit) collects scrapes = refl
 none_asked Request collects scrapes = refl
+none_asked (CloneBuffer buffer) collects scrapes = refl
 
 -- Of the turns that a helper has at most, one more is gone.
 pub raised_once : (left after : ℕ) → left ≡ suc after → left ≤ last_count → last_count - after ≡ raised (last_count - left) 1
@@ -69,3 +70,4 @@ none_requested (Scrape producer) not = refl
 none_requested (Close producer) not = refl
 none_requested (Read buffer limit) not = refl
 none_requested Request not = absurd (not refl)
+none_requested (CloneBuffer buffer) not = refl

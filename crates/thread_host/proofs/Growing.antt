@@ -1,5 +1,5 @@
 -- What a service knows grows by one call more.
-use Rattle.std.proofs.Common.{ℕ, List, [], ◌∷◌, ◌++◌, true, ◌≡◌, Result, IfOk, OnErr, refl, subst, inl, inr}
+use Rattle.std.proofs.Common.{ℕ, List, [], ◌∷◌, ◌++◌, length, true, ◌≡◌, Result, IfOk, OnErr, refl, subst, inl, inr}
 use Rattle.std.proofs.Math.Logic.{∥∥₁_map}
 use Rattle.byte_io.specs.Bytes.{Intake}
 use Rattle.byte_io.specs.declared.put.WriteFault.{WriteFault}
@@ -47,7 +47,8 @@ read_grows named setup lines core number limit old mid new before after result r
     grows_more named lines old mid new (inr (inr (inl (some.0, some.1.view))))
 
 -- answers were read
-pub hear_grows : (setup : Setup) (lines : List NumberedLine) (old mid new : ServiceView) → IsHearing mid new → Grows setup lines old mid → Grows setup lines old new
+pub hear_grows : (setup : Setup) (lines : List NumberedLine) (old mid new : ServiceView) → IsHearing (length setup.writers) mid new → Grows setup lines old mid
+    → Grows setup lines old new
 hear_grows setup lines old mid new hears = grows_more setup lines old mid new (inr (inr (inr (inl hears))))
 
 -- a flush request was made

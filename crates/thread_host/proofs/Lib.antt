@@ -4,6 +4,8 @@ pub mod InVain
 pub mod Telling
 pub mod Hosting
 pub mod Parts
+pub mod ReadAnswers
+pub mod Ordered
 pub mod Collected
 pub mod Growing
 pub mod Made
@@ -15,7 +17,7 @@ pub mod PlayedWriters
 pub mod Polled
 pub mod LastAnswers
 pub mod TallyLemmas
-pub mod ReadAnswers
+pub mod KeptAnswers
 pub mod SettledAnswers
 pub mod Closing
 pub mod DoneAll

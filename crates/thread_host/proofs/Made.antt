@@ -20,6 +20,7 @@ use Rattle.chunk_words.specs.Sits.{setup_in}
 use Rattle.world_model.specs.FirstBuffers.{payload_at, first_buffers}
 use Rattle.trace_buffer.specs.declared.answers.BufferSpec.{BufferSpec}
 use Rattle.session_core.specs.declared.answers.SessionState.TheVariants.{Started}
+use Rattle.session_core.specs.Sessions.{SessionValue, configured, moved, new_session}
 use Rattle.service_core.specs.Agreement.{is_closed, spec_at, spec_value}
 use Rattle.replay_host.specs.Asking.{IsReadyFor}
 use Rattle.replay_host.specs.Making.{buffer_asked}
@@ -35,6 +36,9 @@ use Rattle.thread_service.specs.Serving.{Serves}
 use Rattle.thread_writer.specs.declared.writer.TraceWriter.{TraceWriter}
 use Rattle.thread_host.specs.Hosts.{AreReady, ClosesNone, IsServed}
 use Rattle.thread_host.specs.Making.{IsNewWriter}
+use Rattle.thread_host.specs.Tally.{AreHeardInOrder, KeepsAnswers}
+use Rattle.thread_host.proofs.KeptAnswers.{answers_none}
+use Rattle.thread_host.proofs.Ordered.{none_ordered}
 
 -- ---- writers
 
@@ -77,27 +81,34 @@ requests_fit scenario is = let requests = requests_few scenario.lines in let lin
 -- ---- the service
 
 -- a service of the table with which nothing was noted, whose sequences are open
-pub is_served : (scenario : Parts) (table : HostTable) (service : Service) → Serves table service
+pub is_served : (scenario : Parts) (table : HostTable) (service : Service) (count : ℕ) → Serves table service
     → (setup_in table).writers ≡ scenario.writers
     → ((place : ℕ) → place < length scenario.writers → is_closed (setup_in table) (serving.core_of service) place ≡ false)
     → (serving.core_of service).specs.items ≡ map buffer_asked scenario.buffers
     → serving.view_in service ≡ (first_world (setup_in table)).service
-    → (serving.core_of service).session.state ≡ Started → IsServed scenario table service
-is_served scenario table service serves laid opened buffers view started = record {
+    → (serving.core_of service).session ≡ moved Started (configured count new_session) → IsServed scenario table service
+is_served scenario table service count serves laid opened buffers view session = record {
   serves = serves;
   opened = λ place below. opened place (subst (λ (specs : List WriterSpec). place < length specs) laid below);
   began = ap (λ (specs : List BufferSpec). first_buffers (setup_in table) 1 (map spec_value specs)) buffers
       ∙ ap (first_buffers (setup_in table) 1) (asked_values scenario.buffers);
   own = ap (λ (v : ServiceView). v.commits) view;
   scraped = λ place below other. ap (λ (v : ServiceView). has_part (sequence_of place) v.events) view;
-  started = started;
+  started = ap (λ (s : SessionValue). s.state) session;
   few = let none = ap (λ (v : ServiceView). asked_in v.letters) view in omega (arith, none);
+  in_order = subst (λ (v : ServiceView). AreHeardInOrder v.letters) (sym view) none_ordered;
+  kept = subst (λ (v : ServiceView). KeepsAnswers (length (setup_in table).writers) v.letters (serving.core_of service).session) (sym view)
+      (answers_none (length (setup_in table).writers) count (serving.core_of service).session table.few_writers session);
 }
 
 -- nothing was taken yet
 pub nothing_collected : (setup : Setup) (lines : List NumberedLine) (view : ServiceView) → view ≡ (first_world setup).service → CollectedByLines setup lines view
 nothing_collected setup lines view is place below nobody =
-    ap (λ (v : ServiceView). (taken_of v place).count) is ∙ (unused setup).none_taken place
+    let none : (taken_of view place).count ≡ 0 = ap (λ (v : ServiceView). (taken_of v place).count) is ∙ (unused setup).none_taken place in
+    omega (arith, none)
+
+pub nothing_taken : (setup : Setup) (view : ServiceView) → view ≡ (first_world setup).service → (place : ℕ) → (taken_of view place).count ≡ 0
+nothing_taken setup view is place = ap (λ (v : ServiceView). (taken_of v place).count) is ∙ (unused setup).none_taken place
 
 -- ---- seats
 

@@ -1,5 +1,5 @@
 -- Which calls of a service note a part of a chunk: scrapes alone, and of the writers whose producer is scraped.
-use Rattle.std.proofs.Common.{◌≡◌, ◌≢◌, ◌∙◌, ℕ, zero, suc, Bool, true, false, List, [], ◌∷◌, ◌++◌, refl, sym, ap, subst, arith, inl, inr}
+use Rattle.std.proofs.Common.{◌≡◌, ◌≢◌, ◌∙◌, ℕ, zero, suc, Bool, true, false, List, [], ◌∷◌, ◌++◌, length, refl, sym, ap, subst, arith, inl, inr}
 use Rattle.std.specs.Prelude.{◌||◌}
 use Rattle.std.specs.List.{flat_map}
 use Rattle.std.specs.Coded.{Coded-set, codes}
@@ -29,6 +29,7 @@ use Rattle.run_model.specs.Settled.{ClosesTo, ReadsTo}
 use Rattle.run_model.specs.Stopped.{ReadsSomeTo}
 use Rattle.thread_service.specs.Settling.{TakesRounds, TakesAllOut}
 use Rattle.thread_host.specs.Growing.{GrowsOnce, GrowsBy, Grows}
+use Rattle.thread_host.proofs.ReadAnswers.{hears_letters}
 
 -- no part more was noted
 abbrev pub AddsNoPart : ServiceView → ServiceView → Type 0
@@ -157,7 +158,8 @@ once_scraped setup lines old new (inr (inl scrape)) scraped =
     (λ same. absurd (let wrong : true ≡ false = sym scrape.2 ∙ ap (is_scraped_by lines) (sym same) ∙ other in cc))
     ∙ scraped place inside other
 once_scraped setup lines old new (inr (inr (inr (inl hears)))) scraped =
-    none_scraped setup lines old new (λ sequence. ap (λ (v : ServiceView). has_part sequence v.events) hears.2) scraped
+    none_scraped setup lines old new
+    (λ sequence. ap (λ (v : ServiceView). has_part sequence v.events) (hears_letters (length setup.writers) old new hears).2) scraped
 once_scraped setup lines old new (inr (inr (inr (inr asks)))) scraped =
     none_scraped setup lines old new (λ sequence. ap (λ (v : ServiceView). has_part sequence v.events) asks) scraped
 once_scraped setup lines old new (inr (inr (inl read))) scraped =

@@ -37,6 +37,7 @@ calls_named number (line.Scrape producer) = refl
 calls_named number (line.Close producer) = refl
 calls_named number (line.Read buffer limit) = refl
 calls_named number line.Request = refl
+calls_named number (line.CloneBuffer buffer) = refl
 
 -- ---- the lines of a writer
 

@@ -1,5 +1,5 @@
 -- What the reading of answers leaves of a service.
-use Rattle.std.proofs.Common.{◌≡◌, ◌∙◌, ℕ, ◌+◌, ◌-◌, ◌<◌, ◌≤◌, Bool, true, false, Option, None, List, [], ◌∷◌, ◌++◌, length, refl, sym, ap, subst, arith, append_assoc, append-nil, inl, inr}
+use Rattle.std.proofs.Common.{◌≡◌, ◌∙◌, ℕ, zero, suc, ◌+◌, ◌-◌, ◌<◌, ◌≤◌, Bool, true, false, Option, None, List, [], ◌∷◌, ◌++◌, length, refl, sym, ap, subst, arith, append_assoc, append-nil, inl, inr}
 use Rattle.std.specs.Prelude.{◌&&◌, IsTrue, nat_lt, nat_le}
 use Rattle.std.proofs.lemmas.Bool.{cases_lt, lt-ltb, le-leb}
 use Rattle.atomic_table.proofs.Lists.{at_longer}
@@ -8,6 +8,7 @@ use Rattle.chunk_plain.specs.Setup.{Setup, sequence_of}
 use Rattle.chunk_plain.specs.Views.{At, Letter, Asked, Heard, ServiceView, asked_in}
 use Rattle.chunk_words.specs.declared.seats.ServiceSeat.{ServiceSeat}
 use Rattle.chunk_words.specs.Knows.{Desk, Tale}
+use Rattle.chunk_words.specs.Moves.{IsLastAnswer, IsNoOlder}
 use Rattle.session_core.specs.States.{Acknowledge, Flush, refusal_in}
 use Rattle.session_core.specs.Sessions.{SessionValue, acknowledge_refusal, has_request, refusal_or, left_as, with_answer}
 use Rattle.session_core.specs.declared.answers.Answer.{Answer}
@@ -20,7 +21,7 @@ use Rattle.service_core.specs.Routing.{is_closed_at}
 use Rattle.thread_service.specs.Requesting.{Requests}
 use Rattle.chunk_plain.specs.Letters.{hears_answer, requests}
 use Rattle.thread_service.specs.Serving.{IsOnlySeat}
-use Rattle.thread_host.specs.Growing.{IsHearing}
+use Rattle.thread_host.specs.Growing.{HearsLast, IsHearing}
 use Rattle.thread_host.specs.Tally.{HearsOf, KeepsServing, KeepsSession}
 
 -- ---- letters
@@ -30,61 +31,85 @@ asked_both [] more = omega arith
 asked_both (Asked ∷ letters) more = let rest = asked_both letters more in omega (arith, rest)
 asked_both (Heard place flush chunks ∷ letters) more = asked_both letters more
 
-pub hears_none : (view : ServiceView) → IsHearing view view
-hears_none view = ([], refl, ap (λ (l : List Letter). record view { letters = l }) (sym (append-nil view.letters)))
+-- answers of writers were read, and nothing else
+abbrev pub HearsLetters : ServiceView → ServiceView → Type 0
+HearsLetters old new = (letters : List Letter) × (asked_in letters ≡ 0) × (new ≡ record old { letters = old.letters ++ letters })
 
-pub hears_both : (old mid new : ServiceView) → IsHearing old mid → IsHearing mid new → IsHearing old new
-hears_both old mid new one two = (
+letters_none : (old new : ServiceView) → new ≡ old → HearsLetters old new
+letters_none old new same = ([], refl, same ∙ ap (λ (l : List Letter). record old { letters = l }) (sym (append-nil old.letters)))
+
+letters_both : (old mid new : ServiceView) → HearsLetters old mid → HearsLetters mid new → HearsLetters old new
+letters_both old mid new one two = (
   one.0 ++ two.0,
   (let both = asked_both one.0 two.0 in let first = one.1 in let second = two.1 in omega (arith, both, first, second)),
   two.2 ∙ ap (λ (v : ServiceView). record v { letters = v.letters ++ two.0 }) one.2
       ∙ ap (λ (l : List Letter). record old { letters = l }) (append_assoc old.letters one.0 two.0),
 )
 
+pub last_letters : (place : ℕ) (old new : ServiceView) → HearsLast place old new → HearsLetters old new
+last_letters place old new hears = (Heard place hears.flush hears.chunks ∷ [], refl, hears.view)
+
+pub hears_letters : (writers : ℕ) (old new : ServiceView) → IsHearing writers old new → HearsLetters old new
+hears_letters zero old new same = letters_none old new same
+hears_letters (suc place) old new hears = letters_both old hears.0 new (hears_letters place old hears.0 hears.1) (last_letters place hears.0 new hears.2)
+
 -- no request was made
-pub hears_asked : (old new : ServiceView) → IsHearing old new → asked_in new.letters ≡ asked_in old.letters
-hears_asked old new hears =
+letters_asked : (old new : ServiceView) → HearsLetters old new → asked_in new.letters ≡ asked_in old.letters
+letters_asked old new hears =
     let both = asked_both old.letters hears.0 in let none = hears.1 in
     let same = ap (λ (v : ServiceView). asked_in v.letters) hears.2 in omega (arith, both, none, same)
 
--- what was heard of a writer stays heard
-pub heard_stays : (old new : ServiceView) (before desk : Desk) (place : ℕ) → IsHearing old new → desk ≡ before → HearsOf old before place → HearsOf new desk place
-heard_stays old new before desk place hears same heard = record {
-  number = heard.number;
-  flush = heard.flush;
-  chunks = heard.chunks;
-  there = subst (λ (v : ServiceView). At v.letters heard.number (Heard place heard.flush heard.chunks)) (sym hears.2)
-      (at_longer old.letters hears.0 heard.number (Heard place heard.flush heard.chunks) heard.there);
-  made = let asked = hears_asked old new hears in let low = heard.made in omega (arith, asked, low);
-  told = λ i tale there here. heard.told i tale (subst (λ (d : Desk). At d.told i tale) same there) here;
-}
+pub hears_asked : (writers : ℕ) (old new : ServiceView) → IsHearing writers old new → asked_in new.letters ≡ asked_in old.letters
+hears_asked writers old new hears = letters_asked old new (hears_letters writers old new hears)
+
+-- behind those of the writers before it one writer's answer is read
+pub hears_next : (place : ℕ) (first old new : ServiceView) → IsHearing place first old → HearsLast place old new → IsHearing (place + 1) first new
+hears_next place first old new before last =
+    let more : suc place ≡ place + 1 = omega arith in
+    let all : IsHearing (suc place) first new = (old, before, last) in
+    subst (λ (n : ℕ). IsHearing n first new) more all
+
+-- what was heard of a writer stays heard behind the answer of another
+pub heard_stays : (old new : ServiceView) (before desk : Desk) (place other : ℕ) → HearsLast other old new → desk ≡ before → HearsOf old before place
+    → HearsOf new desk place
+heard_stays old new before desk place other hears same heard =
+    let letters = last_letters other old new hears in
+    record {
+      number = heard.number;
+      flush = heard.flush;
+      chunks = heard.chunks;
+      there = subst (λ (v : ServiceView). At v.letters heard.number (Heard place heard.flush heard.chunks)) (sym letters.2)
+          (at_longer old.letters letters.0 heard.number (Heard place heard.flush heard.chunks) heard.there);
+      made = let asked = letters_asked old new letters in let low = heard.made in omega (arith, asked, low);
+      told = λ i tale there here. heard.told i tale (subst (λ (d : Desk). At d.told i tale) same there) here;
+    }
 
 -- an answer that is read, and of whom
-pub heard_once : (old new : ServiceView) (place writer flush chunks : ℕ) → writer ≡ place + 1 → new ≡ hears_answer old (writer - 1) flush chunks → IsHearing old new
-heard_once old new place writer flush chunks number view =
+abbrev pub hears_last : (old new : ServiceView) (place writer flush chunks : ℕ) → writer ≡ place + 1 → new ≡ hears_answer old (writer - 1) flush chunks
+    → flush ≤ asked_in old.letters → IsNoOlder old (writer - 1) flush chunks → IsLastAnswer new (writer - 1) flush chunks → HearsLast place old new
+hears_last old new place writer flush chunks number view made older last =
     let at : writer - 1 ≡ place = omega (arith, number) in
-    (Heard place flush chunks ∷ [], refl, view ∙ ap (λ (p : ℕ). hears_answer old p flush chunks) at)
-
--- what the service knows then
-pub heard_view : (old new : ServiceView) (place writer flush chunks : ℕ) → writer ≡ place + 1 → new ≡ hears_answer old (writer - 1) flush chunks
-    → new ≡ hears_answer old place flush chunks
-heard_view old new place writer flush chunks number view =
-    let at : writer - 1 ≡ place = omega (arith, number) in
-    view ∙ ap (λ (p : ℕ). hears_answer old p flush chunks) at
-
-pub heard_of : (old new : ServiceView) (before desk : Desk) (place writer flush chunks : ℕ) → writer ≡ place + 1 → new ≡ hears_answer old (writer - 1) flush chunks
-    → flush ≤ asked_in old.letters → desk ≡ before
-    → ((i : ℕ) (tale : Tale) → At before.told i tale → tale.place ≡ writer - 1 → tale.flush ≤ flush) → HearsOf new desk place
-unfolding heard_once
-heard_of old new before desk place writer flush chunks number view made same told =
-    let at : writer - 1 ≡ place = omega (arith, number) in
-    let hears = heard_once old new place writer flush chunks number view in
     record {
-      number = length old.letters;
       flush = flush;
       chunks = chunks;
-      there = subst (λ (v : ServiceView). At v.letters (length old.letters) (Heard place flush chunks)) (sym hears.2) (at_seam old.letters [] (Heard place flush chunks));
-      made = let asked = hears_asked old new hears in omega (arith, made, asked);
+      made = made;
+      heard = subst (λ (p : ℕ). IsNoOlder old p flush chunks) at older;
+      last = subst (λ (p : ℕ). IsLastAnswer new p flush chunks) at last;
+      view = view ∙ ap (λ (p : ℕ). hears_answer old p flush chunks) at;
+    }
+
+-- and with what the writer told
+pub heard_of : (old new : ServiceView) (before desk : Desk) (place writer : ℕ) (hears : HearsLast place old new) → writer ≡ place + 1 → desk ≡ before
+    → ((i : ℕ) (tale : Tale) → At before.told i tale → tale.place ≡ writer - 1 → tale.flush ≤ hears.flush) → HearsOf new desk place
+heard_of old new before desk place writer hears number same told =
+    let at : writer - 1 ≡ place = omega (arith, number) in
+    record {
+      number = length old.letters;
+      flush = hears.flush;
+      chunks = hears.chunks;
+      there = subst (λ (v : ServiceView). At v.letters (length old.letters) (Heard place hears.flush hears.chunks)) (sym hears.view)
+          (at_seam old.letters [] (Heard place hears.flush hears.chunks));
+      made = let asked = letters_asked old new (last_letters place old new hears) in let made = hears.made in omega (arith, made, asked);
       told = λ i tale there here. told i tale (subst (λ (d : Desk). At d.told i tale) same there) (here ∙ sym at);
     }
 
@@ -109,11 +134,21 @@ accepted session flush started some low =
     ap (λ (state : SessionState). refusal_or (refusal_in Acknowledge state) (has_request session flush) flush) started
     ∙ ap (λ (b : Bool). refusal_or None b flush) (has_yes flush session.requests some low)
 
-pub session_acknowledged : (old new : SessionValue) (flush place : ℕ) (answer : Answer) → acknowledge_refusal old flush ≡ None
-    → new ≡ left_as (acknowledge_refusal old flush) old (with_answer old place answer) → KeepsSession old new
-session_acknowledged old new flush place answer none after =
-    let is : new ≡ with_answer old place answer = after ∙ ap (λ (o : Option SessionFault). left_as o old (with_answer old place answer)) none in
-    record { state = ap (λ (s : SessionValue). s.state) is; writers = ap (λ (s : SessionValue). s.writers) is; requests = ap (λ (s : SessionValue). s.requests) is }
+-- such an answer goes to its writer's place
+pub acknowledged : (old new : SessionValue) (flush place writer : ℕ) (answer : Answer) → writer ≡ place + 1 → acknowledge_refusal old flush ≡ None
+    → new ≡ left_as (acknowledge_refusal old flush) old (with_answer old (writer - 1) answer) → new ≡ with_answer old place answer
+acknowledged old new flush place writer answer number none after =
+    let at : writer - 1 ≡ place = omega (arith, number) in
+    after
+    ∙ ap (λ (o : Option SessionFault). left_as o old (with_answer old (writer - 1) answer)) none
+    ∙ ap (λ (p : ℕ). with_answer old p answer) at
+
+pub session_acknowledged : (old new : SessionValue) (place : ℕ) (answer : Answer) → new ≡ with_answer old place answer → KeepsSession old new
+session_acknowledged old new place answer is = record {
+  state = ap (λ (s : SessionValue). s.state) is;
+  writers = ap (λ (s : SessionValue). s.writers) is;
+  requests = ap (λ (s : SessionValue). s.requests) is;
+}
 
 -- a request is made while the session is started
 pub requested_view : (state : SessionState) (old new : ServiceView) → state ≡ Started → Requests (refusal_in Flush state) old new → new ≡ requests old

@@ -36,7 +36,7 @@ use Rattle.thread_writer.specs.declared.writer.TraceWriter.{TraceWriter}
 use Rattle.thread_writer.specs.Writing.{core_of, view_in}
 use Rattle.thread_host.specs.Ending.{begun_counts, no_counts, IsDoneSeat, AreDoneSeats, HasHeard, HasHeardAll}
 use Rattle.thread_host.specs.Hosts.{HasPlayed, IsServed}
-use Rattle.thread_host.specs.Tally.{KeepsServing}
+use Rattle.thread_host.specs.Tally.{AreHeardInOrder, KeepsAnswers, KeepsServing}
 use Rattle.thread_host.proofs.Parts.{AddsNoPart, none_scraped}
 
 -- ---- lists
@@ -55,8 +55,9 @@ only_both old mid new first second = ap (λ (core : ServiceCore ServiceSeat). re
 pub served_on : (scenario : Parts) (table : HostTable) (old new : Service) → IsServed scenario table old → Serves table new
     → KeepsServing (setup_in table) (serving.core_of old) (serving.core_of new) → (serving.view_in new).commits ≡ (serving.view_in old).commits
     → AddsNoPart (serving.view_in old) (serving.view_in new) → asked_in (serving.view_in new).letters ≡ asked_in (serving.view_in old).letters
-    → IsServed scenario table new
-served_on scenario table old new served serves keeps own none asked = record {
+    → AreHeardInOrder (serving.view_in new).letters
+    → KeepsAnswers (length (setup_in table).writers) (serving.view_in new).letters (serving.core_of new).session → IsServed scenario table new
+served_on scenario table old new served serves keeps own none asked in_order kept = record {
   serves = serves;
   opened = λ place inside. keeps.closed place inside ∙ served.opened place inside;
   began = ap (λ (specs : List BufferSpec). first_buffers (setup_in table) 1 (map spec_value specs)) keeps.specs ∙ served.began;
@@ -64,6 +65,8 @@ served_on scenario table old new served serves keeps own none asked = record {
   scraped = none_scraped (setup_in table) scenario.lines (serving.view_in old) (serving.view_in new) none served.scraped;
   started = keeps.session.state ∙ served.started;
   few = let few = served.few in omega (arith, asked, few);
+  in_order = in_order;
+  kept = kept;
 }
 
 -- ---- one writer

@@ -11,13 +11,13 @@ use Rattle.chunk_words.specs.declared.seats.ServiceSeat.{ServiceSeat}
 use Rattle.chunk_words.specs.declared.seats.WriterSeat.{WriterSeat}
 use Rattle.chunk_words.specs.Closed.{views_of}
 use Rattle.chunk_words.specs.Knows.{Tale}
-use Rattle.chunk_words.specs.Sits.{setup_in, known_by}
+use Rattle.chunk_words.specs.Sits.{setup_in, known_by, known_by_service}
 use Rattle.scenario_text.specs.declared.scenario.NumberedLine.{NumberedLine}
 use Rattle.scenario_text.specs.Scenario.{Parts}
 use Rattle.service_core.specs.declared.service.ServiceCore.{ServiceCore}
 use Rattle.service_core.specs.Agreement.{KeepsRest, KeepsTaking}
 use Rattle.replay_model.specs.Flushes.{requests_in}
-use Rattle.run_model.specs.Collected.{CollectedByLines}
+use Rattle.run_model.specs.Collected.{CollectedByLines, taken_by_lines}
 use Rattle.thread_service.specs.declared.service.Service.{Service}
 use Rattle.thread_service.specs.Serving as serving
 use Rattle.thread_service.specs.Serving.{IsOnlySeat}
@@ -26,10 +26,12 @@ use Rattle.thread_writer.specs.declared.writer.TraceWriter.{TraceWriter}
 use Rattle.thread_writer.specs.Writing.{view_in}
 use Rattle.thread_host.specs.Growing.{IsHearing}
 use Rattle.thread_host.specs.Hosts.{HaveAnswered}
-use Rattle.thread_host.specs.Tally.{IsTally, KeepsServing, KeepsSession}
+use Rattle.thread_host.specs.Tally.{IsTally, KeepsAnswers, KeepsServing, KeepsSession}
 use Rattle.thread_host.specs.declared.tally.Tally.{Tally}
+use Rattle.thread_host.proofs.Collected.{taken_still}
 use Rattle.thread_host.proofs.Hosting.{held_of}
-use Rattle.thread_host.proofs.ReadAnswers.{only_serving, rest_serving, serving_both, taking_serving}
+use Rattle.thread_host.proofs.KeptAnswers.{answers_same}
+use Rattle.thread_host.proofs.ReadAnswers.{hears_letters, only_serving, rest_serving, serving_both, taking_serving}
 
 -- the tally of the host, which is there
 pub tally_there : (scenario : Parts) (table : HostTable) (services : Option Service) (service : Service) (tallies : Option Tally) (tally : Tally)
@@ -52,6 +54,18 @@ settle_keeps setup first ended read compared marked last ends reads session comp
     (serving_both setup read compared last (only_serving setup read compared compares)
     (serving_both setup compared marked last (only_serving setup compared marked marks) (rest_serving setup marked last settles))))
 
+-- and the answers that it keeps are those that were read, where the reading keeps them so
+pub settle_answers : (setup : Setup) (writers : ℕ) (first ended read compared marked last : ServiceCore ServiceSeat) → IsOnlySeat first ended
+    → IsOnlySeat read compared → IsOnlySeat compared marked → KeepsRest setup marked last
+    → (known_by_service ended.seat).letters ≡ (known_by_service first.seat).letters → (known_by_service last.seat).letters ≡ (known_by_service read.seat).letters
+    → (KeepsAnswers writers (known_by_service ended.seat).letters ended.session → KeepsAnswers writers (known_by_service read.seat).letters read.session)
+    → KeepsAnswers writers (known_by_service first.seat).letters first.session → KeepsAnswers writers (known_by_service last.seat).letters last.session
+settle_answers setup writers first ended read compared marked last ends compares marks settles before behind reads was =
+    answers_same writers (known_by_service read.seat).letters (known_by_service last.seat).letters read.session last.session behind
+    (settles.fields.session ∙ ap (λ (core : ServiceCore ServiceSeat). core.session) marks ∙ ap (λ (core : ServiceCore ServiceSeat). core.session) compares)
+    (reads (answers_same writers (known_by_service first.seat).letters (known_by_service ended.seat).letters first.session ended.session before
+    (ap (λ (core : ServiceCore ServiceSeat). core.session) ends) was))
+
 -- a tale is whole still
 pub tale_still : (setup : Setup) (old new : ServiceView) (tale : Tale) → length old.looks ≡ length new.looks → IsWholeTale setup old tale → IsWholeTale setup new tale
 tale_still setup old new tale same whole = record {
@@ -63,10 +77,10 @@ tale_still setup old new tale same whole = record {
 }
 
 -- reading answers takes nothing
-pub heard_collected : (setup : Setup) (lines : List NumberedLine) (old new : ServiceView) → IsHearing old new → CollectedByLines setup lines old
-    → CollectedByLines setup lines new
-heard_collected setup lines old new hears collected place inside nobody =
-    ap (λ (v : ServiceView). (taken_of v place).count) hears.2 ∙ collected place inside nobody
+pub heard_collected : (setup : Setup) (lines : List NumberedLine) (writers : ℕ) (old new : ServiceView) → IsHearing writers old new
+    → CollectedByLines setup lines old → CollectedByLines setup lines new
+heard_collected setup lines writers old new hears collected =
+    taken_still setup lines (taken_by_lines lines) old new (ap (λ (v : ServiceView). v.taken) (hears_letters writers old new hears).2) collected
 
 -- the writer of a seat
 same_view : (seats : List WriterSeat) (writers : List TraceWriter) (place : ℕ) (seat : WriterSeat) → views_of seats ≡ map view_in writers → slice_get seats place ≡ Some seat

@@ -103,7 +103,7 @@ stays_where true was none = refl
 stays_where false was none = sym (none refl)
 
 -- one that counts nothing changes nothing
-chunks_stay : (flush place : ℕ) (letters : List Letter) (one : Letter) → chunks_to flush place (one ∷ []) ≡ 0
+pub chunks_stay : (flush place : ℕ) (letters : List Letter) (one : Letter) → chunks_to flush place (one ∷ []) ≡ 0
     → chunks_to flush place (letters ++ one ∷ []) ≡ chunks_to flush place letters
 chunks_stay flush place letters one none =
     chunks_append flush place letters one
@@ -111,7 +111,7 @@ chunks_stay flush place letters one none =
     ∙ stays_where (found flush place letters) (chunks_to flush place letters) (none_found flush place letters)
 
 -- an answer of another writer, or to an older request
-chunks_other : (flush place other number chunks : ℕ) (letters : List Letter) → other ≢ place
+pub chunks_other : (flush place other number chunks : ℕ) (letters : List Letter) → other ≢ place
     → chunks_to flush place (letters ++ Heard other number chunks ∷ []) ≡ chunks_to flush place letters
 chunks_other flush place other number chunks letters apart =
     chunks_stay flush place letters (Heard other number chunks)
@@ -125,14 +125,14 @@ chunks_older flush place number chunks letters older =
     ∙ ap (λ (b : Bool). cond b chunks 0) (le-ltb flush (suc number) (omega (arith, older))))
 
 -- one to a request that was answered before
-chunks_again : (flush place number chunks : ℕ) (letters : List Letter) → 0 < flush → flush ≤ newest_read place letters
+pub chunks_again : (flush place number chunks : ℕ) (letters : List Letter) → 0 < flush → flush ≤ newest_read place letters
     → chunks_to flush place (letters ++ Heard place number chunks ∷ []) ≡ chunks_to flush place letters
 chunks_again flush place number chunks letters some low =
     chunks_append flush place letters (Heard place number chunks)
     ∙ ap (λ (b : Bool). cond b (chunks_to flush place letters) (chunks_to flush place (Heard place number chunks ∷ []))) (found_yes flush place letters some low)
 
 -- the first one to it
-chunks_first : (flush place number chunks : ℕ) (letters : List Letter) → newest_read place letters < flush → flush ≤ number
+pub chunks_first : (flush place number chunks : ℕ) (letters : List Letter) → newest_read place letters < flush → flush ≤ number
     → (chunks_to flush place letters ≡ 0) × (chunks_to flush place (letters ++ Heard place number chunks ∷ []) ≡ chunks)
 chunks_first flush place number chunks letters new high =
     let none = found_no flush place letters new in (

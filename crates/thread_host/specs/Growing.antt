@@ -1,10 +1,11 @@
 -- How what a service knows grows, whose calls are made one after another by whoever holds its lock.
-use Rattle.std.specs.Prelude.{◌≡◌, ◌⊎◌, ℕ, true, List, [], ◌∷◌, ◌++◌}
+use Rattle.std.specs.Prelude.{◌≡◌, ◌⊎◌, ℕ, zero, suc, ◌≤◌, true, List, [], ◌∷◌, length}
 use Rattle.std.specs.List.{flat_map}
 use Rattle.trace_model.specs.History as model
-use Rattle.chunk_plain.specs.Letters.{requests}
+use Rattle.chunk_plain.specs.Letters.{hears_answer, requests}
 use Rattle.chunk_plain.specs.Setup.{Setup}
-use Rattle.chunk_plain.specs.Views.{Letter, ServiceView, asked_in}
+use Rattle.chunk_plain.specs.Views.{ServiceView, asked_in}
+use Rattle.chunk_words.specs.Moves.{IsLastAnswer, IsNoOlder}
 use Rattle.scenario_text.specs.declared.scenario.NumberedLine.{NumberedLine}
 use Rattle.service_core.specs.Reading.{noted_read}
 use Rattle.service_core.specs.Scraping.{TakesAndScrapes}
@@ -25,9 +26,20 @@ IsScrape setup lines old new = (producer taken : ℕ) × (is_scraped_by lines pr
 abbrev pub IsReading : ServiceView → ServiceView → Type 0
 IsReading old new = (reads : List model.Event) × (new ≡ noted_more old (flat_map noted_read reads))
 
--- Answers of writers were read, and nothing else.
-abbrev pub IsHearing : ServiceView → ServiceView → Type 0
-IsHearing old new = (letters : List Letter) × (asked_in letters ≡ 0) × (new ≡ record old { letters = old.letters ++ letters })
+-- An answer of the writer at this place was read that was its last one in some world, and nothing else: 0 and 0 where it had given none there. It is to a request that was made, and to no older
+-- one than any that was read of the writer before; what was read to the same request is the same.
+pub record HearsLast (place : ℕ) (old new : ServiceView) : Type 0 where
+  pub flush : ℕ
+  pub chunks : ℕ
+  pub made : flush ≤ asked_in old.letters
+  pub heard : IsNoOlder old place flush chunks
+  pub last : IsLastAnswer new place flush chunks
+  pub view : new ≡ hears_answer old place flush chunks
+
+-- One answer was read of each of so many writers, in rising number, and nothing else.
+abbrev pub IsHearing : (writers : ℕ) → ServiceView → ServiceView → Type 0
+IsHearing zero old new = new ≡ old
+IsHearing (suc place) old new = (between : ServiceView) × IsHearing place old between × HearsLast place between new
 
 -- The next flush request was made, and nothing else.
 abbrev pub IsRequesting : ServiceView → ServiceView → Type 0
@@ -36,10 +48,11 @@ IsRequesting old new = new ≡ requests old
 -- by one call
 abbrev pub GrowsOnce : Setup → List NumberedLine → ServiceView → ServiceView → Type 0
 GrowsOnce setup lines old new =
-    IsCollect setup lines old new ⊎ (IsScrape setup lines old new ⊎ (IsReading old new ⊎ (IsHearing old new ⊎ IsRequesting old new)))
+    IsCollect setup lines old new
+    ⊎ (IsScrape setup lines old new ⊎ (IsReading old new ⊎ (IsHearing (length setup.writers) old new ⊎ IsRequesting old new)))
 
 -- The view is what these calls made of the earlier one: each collects a producer that somebody may have collected, scrapes one that one of
--- the lines scrapes, reads, reads answers of writers, or makes a flush request, and leaves one of these views to the next.
+-- the lines scrapes, reads, reads an answer of each writer, or makes a flush request, and leaves one of these views to the next.
 abbrev pub GrowsBy : Setup → List NumberedLine → List ServiceView → ServiceView → ServiceView → Type 0
 GrowsBy setup lines [] old new = new ≡ old
 GrowsBy setup lines (view ∷ views) old new = GrowsOnce setup lines old view × GrowsBy setup lines views view new

@@ -34,7 +34,7 @@ use Rattle.thread_writer.specs.declared.writer.TraceWriter.{TraceWriter}
 use Rattle.thread_writer.specs.Writing.{core_of, view_in, Writes}
 use Rattle.thread_host.specs.Keeping.{AllOpen}
 use Rattle.thread_host.specs.Ending.{AreDoneSeats, AreTakenOut}
-use Rattle.thread_host.specs.Tally.{IsTally}
+use Rattle.thread_host.specs.Tally.{AreHeardInOrder, IsTally, KeepsAnswers}
 use Rattle.thread_host.specs.declared.host.Host.{Host}
 use Rattle.thread_host.specs.declared.settled.Settled.{Settled}
 
@@ -90,7 +90,7 @@ ClosesNone lines = (producer : ℕ) → is_closed_by lines producer ≡ false
 
 -- The service is one of the table, with the scenario's buffers, and its session is started. No sequence is closed, and no image came by a commit.
 -- Finished fragments of a chunk before it was complete were noted only where a line scrapes the writer's producer. No more flush requests were
--- made than lines ask for.
+-- made than lines ask for. The answers of each writer were read in order, and the session keeps of each just the newest one that was read.
 pub record IsServed (scenario : Parts) (table : HostTable) (service : Service) : Type 0 where
   pub serves : Serves table service
   pub opened : AllOpen (setup_in table) service
@@ -99,11 +99,13 @@ pub record IsServed (scenario : Parts) (table : HostTable) (service : Service) :
   pub scraped : ScrapedByLines (setup_in table) scenario.lines (serving.view_in service)
   pub started : (serving.core_of service).session.state ≡ Started
   pub few : asked_in (serving.view_in service).letters ≤ requests_in scenario.lines
+  pub in_order : AreHeardInOrder (serving.view_in service).letters
+  pub kept : KeepsAnswers (length (setup_in table).writers) (serving.view_in service).letters (serving.core_of service).session
 
 -- ---- the host
 
--- The host of a scenario: its table is laid out for it, its service is there and serves it, and it has the reading pass. Nothing was taken of a writer
--- whose producer nobody may have collected. There is room for the seats of its writers and for the counts of its report, and the sums of requests are
+-- The host of a scenario: its table is laid out for it, its service is there and serves it, and it has the reading pass. No more was taken of a
+-- writer than lines allow, where no writer of its producer asks for help. There is room for the seats of its writers and for the counts of its report, and the sums of requests are
 -- those of the answers that the service has read.
 pub record IsHost (scenario : Parts) (host : Host) : Type 0 where
   pub laid : IsSetupOf scenario (setup_in host.table)
@@ -131,8 +133,8 @@ HasReadAnswers table view = 0 < asked_in view.letters → (place : ℕ) → plac
     → (n : ℕ) × (chunks : ℕ) × At view.letters n (Heard place (asked_in view.letters) chunks)
 
 -- The writers have done their lines, and there is a world in which they were done: a schedule of steps leads to it from a table as it is made,
--- and it is among those that the service marked. All that they completed was taken: while the threads ran only where somebody may have the producer
--- collected, and what was left then producer by producer in rising number. Their seats are there, in their order, and with each what its writer counted.
+-- and it is among those that the service marked. All that they completed was taken: while the threads ran no more than lines allow, where no writer of
+-- the producer asks for help, and what was left then producer by producer in rising number. Their seats are there, in their order, and with each what its writer counted.
 -- Where all flush requests were made, their sums are those of the answers that the service has read.
 pub record IsSettled (scenario : Parts) (settled : Settled) : Type 0 where
   pub laid : IsSetupOf scenario (setup_in settled.table)

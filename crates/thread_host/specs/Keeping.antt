@@ -22,6 +22,10 @@ pub record IsNamed (id : TableId) (setup : Setup) (table : HostTable) : Type 0 w
   pub identity : identity_of table ≡ id
   pub setup_is : setup_in table ≡ setup
 
+-- these are all parts of a ledger, of which there is one
+abbrev pub IsWhole : (parts all : ℕ) → Type 0
+IsWhole parts all = (all ≡ parts) × (0 < all)
+
 -- the service is one of the table with them
 abbrev pub ServesNamed : TableId → Setup → Service → Type 0
 ServesNamed id setup service = (table : HostTable) → IsNamed id setup table → Serves table service

@@ -1,7 +1,7 @@
 //! The helpers of writers that stall, for ever or so often: one takes the service's lock and has the writer's producer collected. That of
 //! a writer which begins no packet is never asked.
 ghost use Rattle.std.specs.Prelude.{◌≡◌, true};
-ghost use Rattle.run_model.specs.Collected.{may_be_collected};
+ghost use Rattle.run_model.specs.Collected.{has_asker};
 ghost use Rattle.thread_host.specs.Keeping.{IsNamed, named_prop};
 
 use crate::locked::{Locked, Takings};
@@ -22,7 +22,7 @@ pub struct LockHelp<'a, N: HostName, R: Wait, L: Ledger> {
     left: u64,
     takings: Takings<L>,
     ghost named: { IsNamed N.table N.setup table.now } by { named_prop N.table N.setup table.now },
-    ghost wanted: { may_be_collected N.setup N.lines producer ≡ true },
+    ghost wanted: { has_asker N.setup N.lines producer ≡ true },
 }
 
 impl<'a, N: HostName, R: Wait, L: Ledger> LockHelp<'a, N, R, L> {
@@ -35,7 +35,7 @@ impl<'a, N: HostName, R: Wait, L: Ledger> LockHelp<'a, N, R, L> {
         takings: Takings<L>,
     ) -> LockHelp<'a, N, R, L>
         requires table { IsNamed N.table N.setup table.now }
-        requires asked { may_be_collected N.setup N.lines producer ≡ true }
+        requires asked { has_asker N.setup N.lines producer ≡ true }
         ensures turns { result.left ≡ u64.MAX }
         ensures takings { result.takings ≡ takings }
     {

@@ -1,9 +1,9 @@
 //! What runs a scenario on threads.
-ghost use Rattle.std.specs.Prelude.{◌≡◌, [], ◌∷◌, IfSome, IsSomeAnd, IfOk, OnErr, OnOk};
+ghost use Rattle.std.specs.Prelude.{◌≡◌, ℕ, [], ◌∷◌, IfSome, IsSomeAnd, IfOk, OnErr, OnOk};
 ghost use Rattle.byte_io.specs.Bytes.{CountsFaults};
 ghost use Rattle.trace_model.specs.Calls.{Flushed};
 ghost use Rattle.chunk_plain.specs.Plain.{first_world};
-ghost use Rattle.chunk_plain.specs.Views.{asked_in};
+ghost use Rattle.chunk_plain.specs.Views.{asked_in, taken_of};
 ghost use Rattle.chunk_words.specs.Sits.{setup_in, known_by_pass};
 ghost use Rattle.scenario_text.specs.Scenario.{IsScenario, parts_of};
 ghost use Rattle.replay_model.specs.Played.{buffers_of};
@@ -108,6 +108,7 @@ impl Host {
         requires host { IsHost (parts_of scenario.now) self.old }
         requires writers { AreReady scenario.now.lines self.old.table writers.old.items }
         requires unasked { asked_in (known_by_pass self.old.pass).letters ≡ 0 }
+        requires untaken { IsSomeAnd self.old.service (λ service. (place : ℕ) → (taken_of (view_in service) place).count ≡ 0) }
         requires may { T.may_write out.old }
         ensures host { IsHost (parts_of scenario.now) self.new }
         ensures table { self.new.table ≡ self.old.table }
@@ -140,6 +141,7 @@ impl Host {
         requires host { IsHost (parts_of scenario.now) self.old }
         requires writers { AreReady scenario.now.lines self.old.table writers.old.items }
         requires unasked { asked_in (known_by_pass self.old.pass).letters ≡ 0 }
+        requires untaken { IsSomeAnd self.old.service (λ service. (place : ℕ) → (taken_of (view_in service) place).count ≡ 0) }
         requires may { T.may_write out.old }
         ensures host { IsHost (parts_of scenario.now) self.new }
         ensures table { self.new.table ≡ self.old.table }
@@ -162,7 +164,7 @@ impl Host {
         };
         let many = u16::try_from(self.specs.len()).unwrap_or(u16::MAX);
         let own = scenario.lines.by_writers(self.alloc, many);
-        let (service, tally, told) = run_named::<Brand, R, G, T, Brand, Brand>(
+        let (service, tally, told) = run_named::<Brand, R, G, T, Brand>(
             rt,
             gate,
             &self.table,

@@ -1,19 +1,19 @@
 //! The service's own job of a run.
 ghost use Rattle.std.specs.Prelude.{◌≡◌, ℕ, ◌+◌, ◌<◌, ◌≤◌, true, IfOk, OnErr, OnOk};
 ghost use Rattle.byte_io.specs.Bytes.{CountsFaults};
-ghost use Rattle.chunk_plain.specs.Views.{asked_in};
+ghost use Rattle.chunk_plain.specs.Views.{At, asked_in};
 ghost use Rattle.chunk_words.specs.Sits.{Passes, known_by_pass};
 ghost use Rattle.replay_host.specs.Lines.{MOST_REQUESTS};
 ghost use Rattle.replay_model.specs.Flushes.{requests_in};
 ghost use Rattle.scenario_text.specs.declared.scenario.LineKind.TheVariants as line_kinds;
-ghost use Rattle.run_model.specs.Collected.{may_be_collected};
+ghost use Rattle.run_model.specs.Collected.{may_be_collected, taken_by_lines};
 ghost use Rattle.run_model.specs.Scraped.{is_scraped_by};
 ghost use Rattle.thread_service.specs.Reading.{IsKnownWhole};
-ghost use Rattle.thread_host.specs.Keeping.{IsNamed};
+ghost use Rattle.thread_host.specs.Keeping.{IsNamed, IsWhole};
 ghost use Rattle.thread_host.specs.Jobs as jobs;
 ghost use Rattle.thread_host.specs.Jobs.{KeepsLoans, FailsLine, FailsLines, TellsLine, TellsLines, readings_of, readings_in, takings_of, takings_in};
 
-use crate::locked::{Locked, Readings, Takings};
+use crate::locked::{LineTakings, Locked, Readings};
 use crate::name::HostName;
 use byte_io::put::WriteFault;
 use byte_io::traits::{Gate, Sink};
@@ -26,7 +26,7 @@ use std::sync::{Mutex, Wait};
 /// with the lock taken once. Before each it passes the gate and then reads its writers' answers; and it
 /// passes the gate once behind the last. A write that fails ends it. It has chunks taken as often as lines
 /// ask for it.
-pub fn service_job<N: HostName, R: Wait, G: Gate, O: Sink, L: Ledger, K: Ledger>(
+pub fn service_job<N: HostName, R: Wait, G: Gate, O: Sink, K: Ledger>(
     rt: &R,
     gate: &G,
     table: &HostTable,
@@ -34,11 +34,13 @@ pub fn service_job<N: HostName, R: Wait, G: Gate, O: Sink, L: Ledger, K: Ledger>
     lines: &LineList,
     pass: &mut ReadPass,
     out: &mut O,
-    takings: &mut Takings<L>,
+    takings: &mut LineTakings<N>,
     readings: &mut Readings<K>,
 ) -> Result<(), WriteFault>
+    requires ledger { IsWhole N.parts N.all }
     requires table { IsNamed N.table N.setup table.now }
     requires lines { lines.now ≡ N.lines }
+    requires none_taken { takings.old ≡ 0 }
     requires none_asked { asked_in (known_by_pass pass.old).letters ≡ 0 }
     requires few { requests_in N.lines < MOST_REQUESTS }
     requires pass { Passes table.now pass.old }
@@ -108,18 +110,21 @@ fn is_service_line(line: &LineKind<'_>) -> bool
 }
 
 /// Plays a line, where it is one of the service's.
-fn play_line<N: HostName, R: Wait, O: Sink, L: Ledger>(
+fn play_line<N: HostName, R: Wait, O: Sink>(
     rt: &R,
     table: &HostTable,
     service: &Mutex<Locked<N>>,
     line: &LineKind<'_>,
     pass: &mut ReadPass,
     out: &mut O,
-    takings: &mut Takings<L>,
+    takings: &mut LineTakings<N>,
 ) -> Result<(), WriteFault>
+    requires ledger { IsWhole N.parts N.all }
     requires table { IsNamed N.table N.setup table.now }
     requires collected { (producer : ℕ) → line.now ≡ line_kinds.Collect producer → may_be_collected N.setup N.lines producer ≡ true }
     requires scraped { (producer : ℕ) → line.now ≡ line_kinds.Scrape producer → is_scraped_by N.lines producer ≡ true }
+    requires collects { (producer : ℕ) → line.now ≡ line_kinds.Collect producer → At (taken_by_lines N.lines) takings.old producer }
+    requires scrapes { (producer : ℕ) → line.now ≡ line_kinds.Scrape producer → At (taken_by_lines N.lines) takings.old producer }
     requires room { line.now ≡ line_kinds.Request → asked_in (known_by_pass pass.old).letters < requests_in N.lines }
     requires few { requests_in N.lines < MOST_REQUESTS }
     requires pass { Passes table.now pass.old }
@@ -138,7 +143,7 @@ fn play_line<N: HostName, R: Wait, O: Sink, L: Ledger>(
 {
     match line {
         LineKind::Collect { producer } => {
-            let _taken = service.lock(rt).collect(table, *producer, takings);
+            let _taken = service.lock(rt).collect_for_line(table, *producer, takings);
             Ok(())
         }
         LineKind::Scrape { producer } => {

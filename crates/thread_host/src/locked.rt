@@ -1,8 +1,8 @@
 //! The service behind a lock, and how often it was asked there to take chunks and to read answers.
-ghost use Rattle.std.specs.Prelude.{◌≡◌, ◌+◌, ◌<◌, ◌≤◌, true, List, length, IfOk, OnErr, OnOk};
+ghost use Rattle.std.specs.Prelude.{◌≡◌, ◌+◌, ◌<◌, ◌≤◌, true, List, length, take, IfOk, OnErr, OnOk};
 ghost use Rattle.byte_io.specs.Bytes.{CountsFaults, Intake};
 ghost use Rattle.trace_model.specs.History as model;
-ghost use Rattle.chunk_plain.specs.Views.{asked_in};
+ghost use Rattle.chunk_plain.specs.Views.{At, asked_in};
 ghost use Rattle.chunk_words.specs.Knows.{Away, with_stage};
 ghost use Rattle.chunk_words.specs.Sits.{Passes, known_by_pass};
 ghost use Rattle.scenario_text.specs.declared.scenario.LineKind.TheVariants as line;
@@ -12,15 +12,15 @@ ghost use Rattle.service_core.specs.Agreement.{KeepsRest, KeepsTaking};
 ghost use Rattle.service_core.specs.Reading.{NotesReads, ReadsAll, FailsAmong};
 ghost use Rattle.service_core.specs.Scraping.{TakesAndScrapes};
 ghost use Rattle.service_core.specs.Taking.{Takes, places_of};
-ghost use Rattle.run_model.specs.Collected.{may_be_collected};
+ghost use Rattle.run_model.specs.Collected.{CollectedByLines, TakenAtMost, has_asker, may_be_collected, taken_by_lines};
 ghost use Rattle.run_model.specs.Scraped.{is_scraped_by};
 ghost use Rattle.thread_service.specs.Reading.{IsKnownWhole, PassReads};
 ghost use Rattle.thread_service.specs.Serving.{core_of, view_in, desk_in};
 ghost use Rattle.thread_host.specs.Growing.{Grows, IsHearing, IsRequesting};
 ghost use Rattle.thread_host.specs.Jobs.{FailsLine, TellsLine};
-ghost use Rattle.thread_host.specs.Keeping.{IsNamed, ServesNamed, AllOpen, BeganWith, IsStarted, HasOwn};
+ghost use Rattle.thread_host.specs.Keeping.{IsNamed, IsWhole, ServesNamed, AllOpen, BeganWith, IsStarted, HasOwn};
 ghost use Rattle.thread_host.specs.Keeping.{serves_named_prop, began_prop, started_prop, own_prop};
-ghost use Rattle.thread_host.specs.Tally.{IsTally, KeepsSession, tally_prop};
+ghost use Rattle.thread_host.specs.Tally.{IsTally, KeepsAnswers, KeepsSession, answers_prop, tally_prop};
 
 use crate::name::HostName;
 use crate::reading::read_answers;
@@ -29,12 +29,12 @@ use byte_io::put::WriteFault;
 use byte_io::traits::Sink;
 use chunk_words::{HostTable, ReadPass};
 use std::marker::{Model, PhantomData};
-use std::sync::ledger::{Blank, Ledger};
+use std::sync::ledger::{Blank, Book, Ledger, Share};
 use thread_service::Service;
 use trace_base::steps::Steps;
 
-/// How often the service was asked to take chunks. Contracts see a number; it takes no bytes when the
-/// program runs. Nothing raises it but the calls of `Locked` that take chunks: a body that says that it
+/// How often helpers asked the service to take chunks. Contracts see a number; it takes no bytes when the
+/// program runs. Nothing raises it but the call of `Locked` by which they ask: a body that says that it
 /// asked for them so often did so, on this service or on another one of the same name.
 #[derive(Drop)]
 pub struct Takings<L: Ledger> {
@@ -66,6 +66,34 @@ impl<L: Ledger> Takings<L> {
         ensures { self.new ≡ self.old + 1 }
     {
         self.steps.tick();
+    }
+}
+
+/// How many of the lines that have chunks taken were played, in the hands of whoever plays them. Contracts
+/// see a number; it takes no bytes when the program runs. It is the whole share of a ledger whose book lies
+/// under the lock, so that both say the same number.
+#[derive(Drop)]
+pub struct LineTakings<N: HostName> {
+    share: Share<N>,
+}
+
+impl<N: HostName> Model for LineTakings<N> {
+    ghost use Rattle.std.specs.Prelude.{◌≡◌, ℕ};
+
+    ghost Value = { ℕ };
+
+    ghost view = { λ takings. takings.share.amount };
+
+    ghost invariant = { λ takings. takings.share.parts ≡ N.all };
+}
+
+impl<N: HostName> LineTakings<N> {
+    /// By a whole share.
+    pub fn new(share: Share<N>) -> Self
+        requires { share.parts ≡ N.all }
+        ensures { result ≡ share.amount }
+    {
+        LineTakings { share }
     }
 }
 
@@ -108,38 +136,46 @@ impl<L: Ledger> Readings<L> {
 /// commit. What it knows is what the type says that it knew, and what was collected, scraped and read
 /// since, with the flush requests that were made and the answers that were read. Of the lines that the type
 /// names, one scrapes each producer that was scraped; and one collects or scrapes each that was collected,
-/// or a writer of the producer asks for help. The tally is of the answers that the service has read, and
-/// has room for as many requests as these lines make.
+/// or a writer of the producer asks for help. The book counts those of these lines that had chunks taken: of
+/// a producer none of whose writers asks for help nobody else did. The tally is of the answers that the
+/// service has read, and has room for as many requests as these lines make; and its session keeps of each
+/// writer just the newest of them.
 #[derive(Drop)]
 pub struct Locked<N: HostName> {
     pub(crate) service: Service,
     tally: Tally,
+    book: Book<N>,
     of: PhantomData<N>,
     ghost serves: { ServesNamed N.table N.setup service } by { serves_named_prop N.table N.setup service },
     ghost open: { AllOpen N.setup service },
     ghost began: { BeganWith N.setup N.first service } by { began_prop N.setup N.first service },
     ghost own: { HasOwn service } by { own_prop service },
     ghost grows: { Grows N.setup N.lines N.start (view_in service) },
+    ghost bounded: { TakenAtMost N.setup N.lines (take book.total (taken_by_lines N.lines)) (view_in service) },
     ghost started: { IsStarted service } by { started_prop service },
     ghost few: { asked_in (view_in service).letters ≤ requests_in N.lines },
     ghost tallied: { IsTally (requests_in N.lines) (length N.setup.writers) (view_in service).letters tally } by { tally_prop (requests_in N.lines) (length N.setup.writers) (view_in service).letters tally },
+    ghost kept: { KeepsAnswers (length N.setup.writers) (view_in service).letters (core_of service).session } by { answers_prop (length N.setup.writers) (view_in service).letters (core_of service).session },
 }
 
 impl<N: HostName> Locked<N> {
-    pub fn new(service: Service, tally: Tally) -> Locked<N>
+    pub fn new(service: Service, tally: Tally, book: Book<N>) -> Locked<N>
         requires serves { ServesNamed N.table N.setup service }
         requires open { AllOpen N.setup service }
         requires began { BeganWith N.setup N.first service }
         requires own { HasOwn service }
         requires grows { Grows N.setup N.lines N.start (view_in service) }
+        requires bounded { TakenAtMost N.setup N.lines (take book.total (taken_by_lines N.lines)) (view_in service) }
         requires started { IsStarted service }
         requires few { asked_in (view_in service).letters ≤ requests_in N.lines }
         requires tallied { IsTally (requests_in N.lines) (length N.setup.writers) (view_in service).letters tally }
+        requires kept { KeepsAnswers (length N.setup.writers) (view_in service).letters (core_of service).session }
         ensures service { result.service ≡ service }
     {
         Locked {
             service,
             tally,
+            book,
             of: PhantomData,
         }
     }
@@ -151,20 +187,23 @@ impl<N: HostName> Locked<N> {
         ensures began { BeganWith N.setup N.first result.0 }
         ensures own { HasOwn result.0 }
         ensures grows { Grows N.setup N.lines N.start (view_in result.0) }
+        ensures collected { CollectedByLines N.setup N.lines (view_in result.0) }
         ensures started { IsStarted result.0 }
         ensures few { asked_in (view_in result.0).letters ≤ requests_in N.lines }
         ensures tallied { IsTally (requests_in N.lines) (length N.setup.writers) (view_in result.0).letters result.1 }
+        ensures kept { KeepsAnswers (length N.setup.writers) (view_in result.0).letters (core_of result.0).session }
     {
         let Locked {
             service,
             tally,
+            book: _,
             of: _,
         } = self;
         (service, tally)
     }
 
-    /// Takes the complete chunks of the producer's writers. Answers how many. A line, or a writer of the
-    /// producer, may ask for it.
+    /// Takes the complete chunks of the producer's writers. Answers how many. A writer of the producer asks
+    /// for it, by its helper.
     pub fn collect<L: Ledger>(
         &mut self,
         table: &HostTable,
@@ -172,7 +211,7 @@ impl<N: HostName> Locked<N> {
         takings: &mut Takings<L>,
     ) -> u64
         requires table { IsNamed N.table N.setup table.now }
-        requires asked { may_be_collected N.setup N.lines producer ≡ true }
+        requires asked { has_asker N.setup N.lines producer ≡ true }
         ensures keeps { KeepsRest N.setup (core_of self.old.service) (core_of self.new.service) }
         ensures takes { Takes N.setup (places_of producer 0 N.setup.writers) result
             (view_in self.old.service) (view_in self.new.service) }
@@ -183,30 +222,50 @@ impl<N: HostName> Locked<N> {
         self.service.collect(table, producer)
     }
 
-    /// Takes them, and then the finished fragments of the chunks that the writers hold. A line scrapes
-    /// the producer.
-    pub fn scrape<L: Ledger>(
+    /// Takes them for the next one of the lines that have chunks taken, which collects the producer.
+    pub fn collect_for_line(
         &mut self,
         table: &HostTable,
         producer: u16,
-        takings: &mut Takings<L>,
+        takings: &mut LineTakings<N>,
     ) -> u64
+        requires ledger { IsWhole N.parts N.all }
+        requires table { IsNamed N.table N.setup table.now }
+        requires asked { may_be_collected N.setup N.lines producer ≡ true }
+        requires next { At (taken_by_lines N.lines) takings.old producer }
+        ensures keeps { KeepsRest N.setup (core_of self.old.service) (core_of self.new.service) }
+        ensures takes { Takes N.setup (places_of producer 0 N.setup.writers) result
+            (view_in self.old.service) (view_in self.new.service) }
+        ensures desk { desk_in self.new.service ≡ desk_in self.old.service }
+        ensures counts { takings.new ≡ takings.old + 1 }
+    {
+        self.book.audit(&mut takings.share);
+        self.book.add(&mut takings.share, 1);
+        self.service.collect(table, producer)
+    }
+
+    /// Takes them, and then the finished fragments of the chunks that the writers hold. The next one of the
+    /// lines that have chunks taken scrapes the producer.
+    pub fn scrape(&mut self, table: &HostTable, producer: u16, takings: &mut LineTakings<N>) -> u64
+        requires ledger { IsWhole N.parts N.all }
         requires table { IsNamed N.table N.setup table.now }
         requires line { is_scraped_by N.lines producer ≡ true }
+        requires next { At (taken_by_lines N.lines) takings.old producer }
         ensures keeps { KeepsRest N.setup (core_of self.old.service) (core_of self.new.service) }
         ensures scrapes { TakesAndScrapes N.setup producer result (view_in self.old.service) (view_in self.new.service) }
         ensures desk { desk_in self.new.service ≡ desk_in self.old.service }
         ensures counts { takings.new ≡ takings.old + 1 }
     {
-        takings.count();
+        self.book.audit(&mut takings.share);
+        self.book.add(&mut takings.share, 1);
         self.service.scrape(table, producer)
     }
 
-    /// Reads the last answer of each writer to flush requests. Those that are newer than what was read
-    /// before go to the session, and into the sums of their requests.
+    /// Reads the last answer of each writer to flush requests, in rising number. Those that are newer than
+    /// what was read before go to the session, and into the sums of their requests.
     pub fn read_answers<L: Ledger>(&mut self, table: &HostTable, readings: &mut Readings<L>)
         requires table { IsNamed N.table N.setup table.now }
-        ensures hears { IsHearing (view_in self.old.service) (view_in self.new.service) }
+        ensures hears { IsHearing (length N.setup.writers) (view_in self.old.service) (view_in self.new.service) }
         ensures desk { desk_in self.new.service ≡ desk_in self.old.service }
         ensures keeps { KeepsTaking (record (core_of self.old.service) { seat = (core_of self.new.service).seat })
             (core_of self.new.service) }

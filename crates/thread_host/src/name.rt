@@ -1,9 +1,11 @@
 //! Which table a service is one of, as a type can name it.
 use std::marker::Brand;
+use std::sync::ledger::Ledger;
 
-/// A table by what its seats know of it, known in proofs alone.
-pub trait HostName {
-    ghost use Rattle.std.specs.Prelude.{List};
+/// A table by what its seats know of it, known in proofs alone. Its ledger is the one on which stands how
+/// many of its lines had chunks taken.
+pub trait HostName: Ledger {
+    ghost use Rattle.std.specs.Prelude.{ℕ, List};
     ghost use Rattle.atomic_table.specs.Seated.{TableId};
     ghost use Rattle.trace_model.specs.Buffers.{Buffer};
     ghost use Rattle.chunk_plain.specs.Setup.{Setup};
@@ -22,6 +24,9 @@ pub trait HostName {
 
     // the lines that are played beside it
     ghost lines: { List NumberedLine };
+
+    // all parts of its ledger
+    ghost all: { ℕ };
 }
 
 impl HostName for Brand {
@@ -39,4 +44,6 @@ impl HostName for Brand {
     ghost start = { newcomer_service };
 
     ghost lines = { [] };
+
+    ghost all = { 1 };
 }

@@ -2,20 +2,21 @@
 ghost use Rattle.std.specs.Prelude.{◌≡◌, ℕ, ◌<◌, ◌≤◌, [], ◌∷◌, length, IfOk, OnErr, OnOk};
 ghost use Rattle.byte_io.specs.Bytes.{CountsFaults};
 ghost use Rattle.trace_model.specs.Calls.{Flushed};
-ghost use Rattle.chunk_plain.specs.Views.{asked_in};
+ghost use Rattle.chunk_plain.specs.Views.{asked_in, taken_of};
+ghost use Rattle.run_model.specs.Collected.{CollectedByLines};
 ghost use Rattle.chunk_words.specs.Sits.{Passes, known_by_pass};
 ghost use Rattle.replay_host.specs.Lines.{MOST_REQUESTS};
 ghost use Rattle.replay_model.specs.Flushes.{requests_in};
 ghost use Rattle.thread_service.specs.Reading.{IsKnownWhole};
-ghost use Rattle.thread_service.specs.Serving.{view_in};
+ghost use Rattle.thread_service.specs.Serving.{core_of, view_in};
 ghost use Rattle.thread_host.specs.Growing.{Grows};
 ghost use Rattle.thread_host.specs.Hosts.{AreReadyFrom, HasPlayed, HavePlayedFrom, IsReady};
 ghost use Rattle.thread_host.specs.Jobs.{KeepsLoans, FailsLines, TellsLines};
-ghost use Rattle.thread_host.specs.Keeping.{IsNamed, ServesNamed, AllOpen, BeganWith, IsStarted, HasOwn};
-ghost use Rattle.thread_host.specs.Tally.{IsTally};
+ghost use Rattle.thread_host.specs.Keeping.{IsNamed, IsWhole, ServesNamed, AllOpen, BeganWith, IsStarted, HasOwn};
+ghost use Rattle.thread_host.specs.Tally.{IsTally, KeepsAnswers};
 
 use crate::job::service_job;
-use crate::locked::{Locked, Readings, Takings};
+use crate::locked::{LineTakings, Locked, Readings, Takings};
 use crate::name::HostName;
 use crate::tally::Tally;
 use crate::writing::writer_job;
@@ -179,14 +180,14 @@ fn job_on<N: HostName, R: Wait, G: Gate, K: Ledger>(
 }
 
 /// The service plays its lines beside the writers, each of which plays its own. The service comes back
-/// as one of the same table, with the tally of the answers that it has read. How often it has chunks taken
-/// and answers read stands on the ledgers of these blanks.
+/// as one of the same table, with the tally of the answers that it has read. How many of its lines had
+/// chunks taken stands on the ledger of the first blank, which the table's name has, and how often it had
+/// answers read on that of the second.
 pub fn run_named<
     N: HostName + Send + Sync,
     R: Threads + Wait + Sync,
     G: Gate + Sync,
     O: Sink + Send,
-    L: Ledger + Send,
     K: Ledger + Send,
 >(
     rt: &R,
@@ -215,15 +216,17 @@ pub fn run_named<
     requires started { IsStarted service }
     requires few { asked_in (view_in service).letters ≤ requests_in N.lines }
     requires tallied { IsTally (requests_in N.lines) (length N.setup.writers) (view_in service).letters tally }
+    requires kept { KeepsAnswers (length N.setup.writers) (view_in service).letters (core_of service).session }
     requires none_asked { asked_in (known_by_pass pass.old).letters ≡ 0 }
     requires few_requests { requests_in N.lines < MOST_REQUESTS }
     requires pass { Passes table.now pass.old }
     requires known { IsKnownWhole (known_by_pass pass.old) }
     requires may { O.may_write out.old }
     requires ready { AreReadyFrom own.now table.now 0 writers.old }
-    requires takings_name { takings.name ≡ L.name }
-    requires takings_parts { takings.parts ≡ L.parts }
-    requires takings_part { 0 < L.parts }
+    requires takings_name { takings.name ≡ N.name }
+    requires takings_parts { takings.parts ≡ N.parts }
+    requires takings_all { IsWhole N.parts N.all }
+    requires untaken { (place : ℕ) → (taken_of (view_in service) place).count ≡ 0 }
     requires readings_name { readings.name ≡ K.name }
     requires readings_parts { readings.parts ≡ K.parts }
     requires readings_part { 0 < K.parts }
@@ -232,9 +235,11 @@ pub fn run_named<
     ensures began { BeganWith N.setup N.first result.0 }
     ensures own { HasOwn result.0 }
     ensures grows { Grows N.setup N.lines N.start (view_in result.0) }
+    ensures collected { CollectedByLines N.setup N.lines (view_in result.0) }
     ensures started { IsStarted result.0 }
     ensures few { asked_in (view_in result.0).letters ≤ requests_in N.lines }
     ensures tallied { IsTally (requests_in N.lines) (length N.setup.writers) (view_in result.0).letters result.1 }
+    ensures kept { KeepsAnswers (length N.setup.writers) (view_in result.0).letters (core_of result.0).session }
     ensures pass { Passes table.now pass.new }
     ensures known { IsKnownWhole (known_by_pass pass.new) }
     ensures told { IfOk result.2 (λ _. TellsLines N.setup N.first lines.now (known_by_pass pass.old) (known_by_pass pass.new)
@@ -246,8 +251,9 @@ pub fn run_named<
     ensures goes_on { OnOk result.2 (O.may_write out.new) }
     ensures played { HavePlayedFrom own.now table.now 0 writers.old writers.new }
 {
-    let locked = Mutex::new(Locked::<N>::new(service, tally));
-    let mut takings = Takings::<L>::new(takings);
+    let (book, share) = takings.open::<N>();
+    let locked = Mutex::new(Locked::<N>::new(service, tally, book));
+    let mut takings = LineTakings::<N>::new(share);
     let mut readings = Readings::<K>::new(readings);
     let (told, ()) = join_mut(
         rt,

@@ -43,10 +43,10 @@ pub struct Settled {
 impl Host {
     /// Has the service read its writers' last answers to flush requests once it has heard of each writer,
     /// marks the world in which the writers are done, and has all taken that they completed. Their seats
-    /// know what they knew. What the service knows grows by the answers that it reads, and then by rounds that
-    /// take complete chunks, producer by producer in rising number, and by nothing else. No request was made
-    /// behind those that the reading pass knows. Where each writer has answered the last of them, these
-    /// answers were read.
+    /// know what they knew. What the service knows grows by one answer of each writer, in rising number, and
+    /// then by rounds that take complete chunks, producer by producer in rising number, and by nothing else. No
+    /// request was made behind those that the reading pass knows. Where each writer has answered the last of
+    /// them, these answers were read.
     pub fn settle(self, writers: Vec<TraceWriter>) -> Settled
         requires played { (scenario : Parts) × IsHost scenario self × HavePlayed scenario.lines last_flushes self.table writers.items }
         ensures settled { (scenario : Parts) → IsHost scenario self → HavePlayed scenario.lines last_flushes self.table writers.items
@@ -54,7 +54,8 @@ impl Host {
         ensures writers { views_of result.seats.items ≡ map view_in writers.items }
         ensures service { IfSome self.service (λ before. KeepsServing (setup_in self.table)
             (serving.core_of before) (serving.core_of result.service)) }
-        ensures takes { IfSome self.service (λ before. (heard : ServiceView) × IsHearing (serving.view_in before) heard
+        ensures takes { IfSome self.service (λ before. (heard : ServiceView)
+            × IsHearing (length (setup_in self.table).writers) (serving.view_in before) heard
             × TakesAllOut (setup_in self.table) (length (setup_in self.table).ranges) heard (serving.view_in result.service)) }
         ensures requests { asked_in (serving.view_in result.service).letters ≡ asked_in (known_by_pass self.pass).letters }
         ensures answered { HaveAnswered (asked_in (known_by_pass self.pass).letters) writers.items

@@ -4,7 +4,8 @@ use Rattle.chunk_words.specs.Sits.{known_by_pass}
 use Rattle.scenario_text.specs.declared.scenario.NumberedLine.{NumberedLine}
 use Rattle.replay_model.specs.Flushes.{request_count, requests_in}
 use Rattle.thread_host.specs.Jobs.{FailsLines, TellsLines, readings_in, takings_of, takings_in}
-use Rattle.thread_host.proofs.Collected.{collected_here}
+use Rattle.run_model.specs.Collected.{taken_by_line}
+use Rattle.thread_host.proofs.Collected.{collected_here, next_taken}
 use Rattle.thread_host.proofs.Counted.{readings_more, requests_both, takings_more, takings_front}
 use Rattle.thread_host.proofs.Parts.{scraped_here}
 use Rattle.thread_host.proofs.Telling.{fails_behind, on_err, tells_none, tells_more}
@@ -33,6 +34,18 @@ pub play_line-requires-clause-scraped : goal.play_line-requires-clause-scraped
 play_line-requires-clause-scraped g c producer is =
     scraped_here c.lines.invariant.before c.next.new.self g.N.HostName.lines c.in-Some.line producer
     (ap (λ (ls : List NumberedLine). c.lines.invariant.before ++ ls) (sym c.in-Some.ensures.first) ∙ c.lines.invariant.all ∙ c.requires.lines) is
+
+pub play_line-requires-clause-collects : goal.play_line-requires-clause-collects
+play_line-requires-clause-collects g c producer is =
+    next_taken c.lines.invariant.before c.next.new.self g.N.HostName.lines c.in-Some.line producer c.lines.takings
+    (ap (λ (ls : List NumberedLine). c.lines.invariant.before ++ ls) (sym c.in-Some.ensures.first) ∙ c.lines.invariant.all ∙ c.requires.lines)
+    (ap taken_by_line is) (let none = c.requires.none_taken in omega (arith, c.lines.invariant.asks, none))
+
+pub play_line-requires-clause-scrapes : goal.play_line-requires-clause-scrapes
+play_line-requires-clause-scrapes g c producer is =
+    next_taken c.lines.invariant.before c.next.new.self g.N.HostName.lines c.in-Some.line producer c.lines.takings
+    (ap (λ (ls : List NumberedLine). c.lines.invariant.before ++ ls) (sym c.in-Some.ensures.first) ∙ c.lines.invariant.all ∙ c.requires.lines)
+    (ap taken_by_line is) (let none = c.requires.none_taken in omega (arith, c.lines.invariant.asks, none))
 
 pub play_line-requires-clause-room : goal.play_line-requires-clause-room
 play_line-requires-clause-room g c is =

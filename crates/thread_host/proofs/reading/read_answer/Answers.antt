@@ -1,11 +1,17 @@
 -- An answer that is newer goes to the session and into the tally; any other changes neither.
-use Rattle.std.proofs.Common.{◌∙◌, ℕ, ◌+◌, ◌-◌, ◌^◌, ◌<◌, length, sym, ap, subst, arith}
+use Rattle.std.proofs.Common.{◌∙◌, ℕ, ◌+◌, ◌-◌, ◌^◌, ◌<◌, length, refl, sym, ap, subst, arith}
+use Rattle.session_core.specs.declared.answers.Answer.{Answer}
 use Rattle.session_core.specs.States.{answered_as}
 use Rattle.chunk_plain.specs.Views.{ServiceView}
+use Rattle.chunk_words.specs.declared.seats.ServiceSeat.{ServiceSeat}
+use Rattle.chunk_words.specs.Moves.{IsLastAnswer}
 use Rattle.chunk_words.specs.Sits.{desk_by_service, known_by_service, setup_in}
+use Rattle.service_core.specs.declared.service.ServiceCore.{ServiceCore}
 use Rattle.thread_service.specs.Serving.{core_of, view_in, desk_in}
-use Rattle.thread_host.specs.Tally.{IsTally}
-use Rattle.thread_host.proofs.ReadAnswers.{accepted, heard_of, heard_once, heard_view, none_newer, only_session, only_taking, session_acknowledged, session_both, taking_on}
+use Rattle.thread_host.specs.Growing.{HearsLast}
+use Rattle.thread_host.specs.Tally.{IsTally, KeepsAnswers}
+use Rattle.thread_host.proofs.KeptAnswers.{answers_passed, answers_same, answers_taken}
+use Rattle.thread_host.proofs.ReadAnswers.{accepted, acknowledged, heard_of, hears_last, none_newer, only_session, only_taking, session_acknowledged, session_both, taking_on}
 use Rattle.thread_host.proofs.TallyLemmas.{tally_again}
 use Rattle.thread_host.proofs.reading.read_answer.Goals as goal
 
@@ -40,25 +46,35 @@ returns-in-Ok c =
     let old = c.args.service.now in let mid = c.answer_of-flush.new.self in let new = c.acknowledge.new.self in
     let flush = c.answer_of-flush.result.0 in let chunks = c.answer_of-flush.result.1 in
     let place : ℕ = c.args.place in
+    let writers : ℕ = length (setup_in c.args.table.now).writers in
     let gave = c.answer_of-flush.ensures in let took = c.acknowledge.ensures in
     let session = only_session (core_of old) (core_of mid) gave.only in
     let low = gave.asked in let same = session.requests in let made = c.requires.serves.asked in
     let newer = c.is_newer.ensures.0 c.if-is_newer.true in
     let none = accepted (core_of mid).session flush (session.state ∙ c.requires.started) (omega (arith, newer)) (omega (arith, low, same)) in
-    let view = ap known_by_service took.keeps.seat ∙ gave.view in
+    let seen = ap known_by_service took.keeps.seat in
     let desk = ap desk_by_service took.keeps.seat ∙ gave.desk in
-    let hears = heard_once (view_in old) (view_in new) place (place + 1) flush chunks (omega arith) view in
+    let hears : HearsLast place (view_in old) (view_in new) =
+    hears_last (view_in old) (view_in new) place (place + 1) flush chunks (omega arith) (seen ∙ gave.view) (omega (arith, low, made)) gave.heard
+    (subst (λ (v : ServiceView). IsLastAnswer v (place + 1 - 1) flush chunks) (sym seen) gave.last) in
+    let answer : Answer = record { flush = flush; chunks = chunks } in
+    let is = acknowledged (core_of mid).session (core_of new).session flush place (place + 1) answer (omega arith) none took.after in
     record {
       serves = took.serves c.args.table.now gave.serves;
       hears = hears;
       desk = desk;
       keeps = taking_on (core_of old) (core_of mid) (core_of new) (only_taking (core_of old) (core_of mid) gave.only) took.keeps;
       session = session_both (core_of old).session (core_of mid).session (core_of new).session session
-          (session_acknowledged (core_of mid).session (core_of new).session flush (place + 1 - 1) (record { flush = flush; chunks = chunks }) none took.after);
-      tally = λ requests tally. subst (λ (v : ServiceView). IsTally requests (length (setup_in c.args.table.now).writers) v.letters c.add.new.self)
-          (sym (heard_view (view_in old) (view_in new) place (place + 1) flush chunks (omega arith) view))
-          (c.add.ensures.tally requests (length (setup_in c.args.table.now).writers) (view_in old).letters tally);
-      heard = heard_of (view_in old) (view_in new) (desk_in old) (desk_in new) place (place + 1) flush chunks (omega arith) view (omega (arith, low, made)) desk gave.told;
+          (session_acknowledged (core_of mid).session (core_of new).session place answer is);
+      kept = λ was.
+          let read = c.requires.tally.1.answered place c.requires.place in
+          subst (λ (v : ServiceView). KeepsAnswers writers v.letters (core_of new).session) (sym hears.view)
+          (answers_taken writers place flush chunks (view_in old).letters (core_of mid).session (core_of new).session c.requires.place (omega (arith, read, newer)) is
+          (answers_same writers (view_in old).letters (view_in old).letters (core_of old).session (core_of mid).session refl
+          (ap (λ (core : ServiceCore ServiceSeat). core.session) gave.only) was));
+      tally = λ requests tally. subst (λ (v : ServiceView). IsTally requests writers v.letters c.add.new.self) (sym hears.view)
+          (c.add.ensures.tally requests writers (view_in old).letters tally);
+      heard = heard_of (view_in old) (view_in new) (desk_in old) (desk_in new) place (place + 1) hears (omega arith) desk gave.told;
     }
 
 pub returns-else-is_newer : goal.returns-else-is_newer
@@ -66,21 +82,28 @@ returns-else-is_newer c =
     let old = c.args.service.now in let new = c.answer_of-flush.new.self in
     let flush = c.answer_of-flush.result.0 in let chunks = c.answer_of-flush.result.1 in
     let place : ℕ = c.args.place in
+    let writers : ℕ = length (setup_in c.args.table.now).writers in
     let gave = c.answer_of-flush.ensures in
     let low = gave.asked in let made = c.requires.serves.asked in
-    let hears = heard_once (view_in old) (view_in new) place (place + 1) flush chunks (omega arith) gave.view in
+    let hears : HearsLast place (view_in old) (view_in new) =
+    hears_last (view_in old) (view_in new) place (place + 1) flush chunks (omega arith) gave.view (omega (arith, low, made)) gave.heard gave.last in
+    let older = none_newer _ flush c.is_newer.result c.is_newer.ensures.1 c.if-is_newer.false in
     record {
       serves = gave.serves;
       hears = hears;
       desk = gave.desk;
       keeps = only_taking (core_of old) (core_of new) gave.only;
       session = only_session (core_of old) (core_of new) gave.only;
+      kept = λ was.
+          let read = c.requires.tally.1.answered place c.requires.place in
+          subst (λ (v : ServiceView). KeepsAnswers writers v.letters (core_of new).session) (sym hears.view)
+          (answers_passed writers place flush chunks (view_in old).letters (core_of new).session (omega (arith, read, older))
+          (answers_same writers (view_in old).letters (view_in old).letters (core_of old).session (core_of new).session refl
+          (ap (λ (core : ServiceCore ServiceSeat). core.session) gave.only) was));
       tally = λ requests tally.
           let read = tally.answered place c.requires.place in
-          let older = none_newer _ flush c.is_newer.result c.is_newer.ensures.1 c.if-is_newer.false in
           let fits : chunks < 2 ^ 32 = omega arith in
-          subst (λ (v : ServiceView). IsTally requests (length (setup_in c.args.table.now).writers) v.letters c.args.tally.now)
-          (sym (heard_view (view_in old) (view_in new) place (place + 1) flush chunks (omega arith) gave.view))
-          (tally_again requests (length (setup_in c.args.table.now).writers) place flush chunks (view_in old).letters c.args.tally.now (omega (arith, read, older)) fits tally);
-      heard = heard_of (view_in old) (view_in new) (desk_in old) (desk_in new) place (place + 1) flush chunks (omega arith) gave.view (omega (arith, low, made)) gave.desk gave.told;
+          subst (λ (v : ServiceView). IsTally requests writers v.letters c.args.tally.now) (sym hears.view)
+          (tally_again requests writers place flush chunks (view_in old).letters c.args.tally.now (omega (arith, read, older)) fits tally);
+      heard = heard_of (view_in old) (view_in new) (desk_in old) (desk_in new) place (place + 1) hears (omega arith) gave.desk gave.told;
     }

@@ -1,18 +1,21 @@
 -- Each writer's answer is read behind those before it.
-use Rattle.std.proofs.Common.{◌∙◌, refl, sym, subst, inl, inr, arith}
+use Rattle.std.proofs.Common.{◌≡◌, ◌∙◌, ℕ, length, refl, sym, subst, inl, inr, arith}
 use Rattle.std.proofs.lemmas.Bool.{cases_eq}
+use Rattle.chunk_words.specs.Sits.{setup_in}
 use Rattle.thread_service.specs.Serving.{core_of, view_in, desk_in}
+use Rattle.thread_host.specs.Growing.{IsHearing}
 use Rattle.thread_host.specs.Tally.{HearsOf}
-use Rattle.thread_host.proofs.ReadAnswers.{heard_stays, hears_asked, hears_both, hears_none, only_taking, session_both, taking_both}
+use Rattle.thread_host.proofs.ReadAnswers.{heard_stays, hears_asked, hears_next, only_taking, session_both, taking_both}
 use Rattle.thread_host.proofs.reading.read_answers.Goals as goal
 
 pub writers-init : goal.writers-init
 writers-init c = record {
   serves = c.requires.serves;
-  hears = hears_none (view_in c.args.service.now);
+  hears = refl;
   desk = refl;
   keeps = only_taking (core_of c.args.service.now) (core_of c.args.service.now) refl;
   session = record { state = refl; writers = refl; requests = refl };
+  kept = λ was. was;
   tally = λ requests tally. tally;
   heard = λ place below. absurd (omega (arith, below));
 }
@@ -25,7 +28,7 @@ read_answer-requires-clause-tally c = (c.requires.tally.0, c.writers.invariant.t
 
 pub read_answer-requires-clause-room : goal.read_answer-requires-clause-room
 read_answer-requires-clause-room c =
-    let asked = hears_asked (view_in c.args.service.now) (view_in c.writers.service) c.writers.invariant.hears in
+    let asked = hears_asked c.writers.place (view_in c.args.service.now) (view_in c.writers.service) c.writers.invariant.hears in
     let room = c.requires.room in
     let rows = c.requires.tally.1.rows in
     let now = (c.writers.invariant.tally c.requires.tally.0 c.requires.tally.1).rows in
@@ -43,16 +46,27 @@ writers-preserved c =
     let first = c.args.service.now in let old = c.writers.service in let new = c.read_answer.new.service in
     record {
       serves = reads.serves;
-      hears = hears_both (view_in first) (view_in old) (view_in new) i.hears reads.hears;
+      hears = hears_next c.writers.place (view_in first) (view_in old) (view_in new) i.hears reads.hears;
       desk = reads.desk ∙ i.desk;
       keeps = taking_both (core_of first) (core_of old) (core_of new) i.keeps reads.keeps;
       session = session_both (core_of first).session (core_of old).session (core_of new).session i.session reads.session;
+      kept = λ was. reads.kept (i.kept was);
       tally = λ requests tally. reads.tally requests (i.tally requests tally);
       heard = λ place below. elim (cases_eq place c.writers.place) [
         | inl is ↦ subst (HearsOf (view_in new) (desk_in new)) (sym is) reads.heard
-        | inr apart ↦ heard_stays (view_in old) (view_in new) (desk_in old) (desk_in new) place reads.hears reads.desk (i.heard place (omega (arith, below, apart)))
+        | inr apart ↦
+            heard_stays (view_in old) (view_in new) (desk_in old) (desk_in new) place c.writers.place reads.hears reads.desk
+            (i.heard place (omega (arith, below, apart)))
       ];
     }
+
+-- behind the last place all were read
+pub returns-clause-hears : goal.returns-clause-hears
+returns-clause-hears c =
+    let many = c.requires.tally.1.many in let long = c.len-place-end.ensures in let out = c.writers-test.false in let bound = c.writers.auto.place-end in
+    let place : ℕ = c.writers.place in
+    let all : place ≡ length (setup_in c.args.table.now).writers = omega (arith, many, long, out, bound) in
+    subst (λ (n : ℕ). IsHearing n (view_in c.args.service.now) (view_in c.writers.service)) all c.writers.invariant.hears
 
 pub returns-clause-heard : goal.returns-clause-heard
 returns-clause-heard c place inside =

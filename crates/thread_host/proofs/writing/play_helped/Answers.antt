@@ -3,7 +3,7 @@ use Rattle.std.proofs.Common.{◌≡◌, ◌≤◌, ◌+◌, ◌*◌, ℕ, true,
 use Rattle.trace_base.specs.declared.policy.WriterSpec.{WriterSpec}
 use Rattle.replay_model.specs.Does.{asks_for}
 use Rattle.service_core.specs.Agreement.{spec_at}
-use Rattle.run_model.specs.Collected.{may_be_collected}
+use Rattle.run_model.specs.Collected.{has_asker}
 use Rattle.thread_host.specs.Playing.{lost_in}
 use Rattle.thread_host.proofs.Collected.{asked_here}
 use Rattle.thread_host.proofs.Helped.{counted_helps}
@@ -12,7 +12,7 @@ use Rattle.thread_host.proofs.writing.play_helped.Goals as goal
 
 pub new-requires-clause-asked : goal.new-requires-clause-asked
 new-requires-clause-asked g c =
-    subst (λ (specs : List WriterSpec). may_be_collected g.N.HostName.setup g.N.HostName.lines (spec_at specs c.args.place).producer ≡ true) (sym c.requires.specs)
+    subst (λ (specs : List WriterSpec). has_asker g.N.HostName.setup g.N.HostName.lines (spec_at specs c.args.place).producer ≡ true) (sym c.requires.specs)
     (asked_here g.N.HostName.setup g.N.HostName.lines c.args.place c.requires.asks)
 
 pub returns-clause-asks : goal.returns-clause-asks

@@ -22,7 +22,6 @@ use Rattle.replay_host.proofs.MomentLemmas.{ranges_many}
 use Rattle.replay_host.proofs.SetUpLemmas.{made_as_asked, specs_few, specs_some_page, specs_few_pages, specs_routed, specs_fit, specs_sizes}
 use Rattle.thread_service.specs.Serving as serving
 use Rattle.thread_host.specs.Hosts.{IsServed}
-use Rattle.session_core.specs.Sessions.{SessionValue}
 use Rattle.replay_model.specs.Flushes.{requests_in}
 use Rattle.thread_host.specs.Tally.{IsTally}
 use Rattle.thread_host.proofs.Made.{are_ready, is_served, nothing_collected, requests_fit}
@@ -152,12 +151,12 @@ returns c =
     (subst (IsUnused (length (setup_in table).writers)) (sym (c.pass-pass.ensures.view ∙ c.in_ok-table.ensures.service_view))
     (unused (setup_in table))) in
     let served : IsServed (parts_of scenario) table service =
-    is_served (parts_of scenario) table service (c.in_ok-service.ensures.serves table c.pass-pass.ensures.seat again none
+    is_served (parts_of scenario) table service (length c.deref-7.result.now) (c.in_ok-service.ensures.serves table c.pass-pass.ensures.seat again none
     (ap (λ (v : ServiceView). asked_in v.letters) (c.pass-pass.ensures.view ∙ c.in_ok-table.ensures.service_view))) laid
     (λ place below. subst (λ (s : Setup). is_closed s (serving.core_of service) place ≡ false) (sym again)
     (c.in_ok-service.ensures.open place (subst (λ (ws : List WriterSpec). place < length ws) (sym c.deref-7.ensures.value) below)))
     (c.in_ok-service.ensures.specs ∙ c.deref-5.ensures.value ∙ c.in_ok-buffers.ensures ∙ ap (map buffer_asked) c.deref-2.ensures.value)
-    seen (ap (λ (s : SessionValue). s.state) c.in_ok-service.ensures.session) in
+    seen c.in_ok-service.ensures.session in
     let known : (first_world (setup_in table)).service ≡ _ = sym (c.pass-pass.ensures.known ∙ c.in_ok-table.ensures.service_view) in
     record {
       host = record {

@@ -1,8 +1,9 @@
 -- The service is there, and comes back as what the lock's type says of it.
-use Rattle.std.proofs.Common.{◌≡◌, ◌∙◌, Option, IfSome, List, [], ◌∷◌, length, refl, sym, ap, subst}
+use Rattle.std.proofs.Common.{◌≡◌, ◌∙◌, ℕ, Option, IfSome, List, [], ◌∷◌, length, refl, sym, ap, subst}
 use Rattle.std.specs.Option.{IsSomeAnd}
 use Rattle.trace_model.specs.Calls.{Flushed}
 use Rattle.replay_model.specs.Flushes.{requests_in}
+use Rattle.chunk_plain.specs.Views.{taken_of}
 use Rattle.chunk_words.specs.Sits.{setup_in}
 use Rattle.scenario_text.specs.declared.scenario.NumberedLine.{NumberedLine}
 use Rattle.scenario_text.specs.Scenario.{parts_of}
@@ -13,10 +14,9 @@ use Rattle.thread_host.specs.Growing.{Grows}
 use Rattle.thread_host.specs.Tally.{IsTally}
 use Rattle.thread_host.specs.declared.tally.Tally.{Tally}
 use Rattle.thread_host.specs.Hosts.{AreReadyFrom, IsServed, HavePlayed, HavePlayedFrom}
-use Rattle.run_model.specs.Collected.{CollectedByLines}
-use Rattle.thread_host.proofs.Collected.{grown_collected}
 use Rattle.thread_host.proofs.Growing.{grows_none}
 use Rattle.thread_host.proofs.Hosting.{all_played, given_back, held_of, never_none, ready_from, serves_named}
+use Rattle.thread_host.proofs.Ordered.{grown_ordered}
 use Rattle.thread_host.proofs.Parts.{grown_scraped}
 use Rattle.thread_host.proofs.host.Host.run_jobs.Goals as goal
 
@@ -66,12 +66,22 @@ run_named-service-requires-clause-tallied g c κs within =
     c.args.self.now.tally c.in-Some-take.tally c.requires.host.tallied (sym c.take-2.ensures.value ∙ c.in-Some-take.is))
     (sym c.take.ensures.value ∙ c.in-Some.is)
 
+pub run_named-service-requires-clause-kept : goal.run_named-service-requires-clause-kept
+run_named-service-requires-clause-kept g c κs within =
+    (held_of (IsServed (parts_of c.args.scenario.now) c.args.self.now.table) c.args.self.now.service c.in-Some.service c.requires.host.served
+    (sym c.take.ensures.value ∙ c.in-Some.is)).kept
+
 pub run_named-service-requires-clause-ready : goal.run_named-service-requires-clause-ready
 run_named-service-requires-clause-ready g c κs within =
     let lines = c.args.scenario.now.lines in
     let table = c.args.self.now.table in
     subst (λ (ls : List NumberedLine). AreReadyFrom ls table 0 c.as_mut_slice.result.now) (sym c.by_writers-own.ensures)
     (subst (AreReadyFrom lines table 0) (sym c.as_mut_slice.ensures.value) (ready_from lines table c.args.writers.now.items c.requires.writers))
+
+pub run_named-service-requires-clause-untaken : goal.run_named-service-requires-clause-untaken
+run_named-service-requires-clause-untaken g c κs within =
+    held_of (λ (service : Service). (place : ℕ) → (taken_of (view_in service) place).count ≡ 0) c.args.self.now.service c.in-Some.service c.requires.untaken
+    (sym c.take.ensures.value ∙ c.in-Some.is)
 
 pub run_named-service-requires-clause-grows : goal.run_named-service-requires-clause-grows
 run_named-service-requires-clause-grows g c κs within = grows_none (setup_in c.args.self.now.table) c.args.scenario.now.lines (view_in c.in-Some.service)
@@ -85,8 +95,6 @@ returns-clause-host g c =
     let after = c.run_named-service.result.0 in
     let back = c.run_named-service.ensures in
     let served = held_of (IsServed (parts_of c.args.scenario.now) table) c.args.self.now.service before host.served (sym c.take.ensures.value ∙ c.in-Some.is) in
-    let collected = held_of (λ (service : Service). CollectedByLines setup c.args.scenario.now.lines (view_in service)) c.args.self.now.service before host.collected
-    (sym c.take.ensures.value ∙ c.in-Some.is) in
     record {
       laid = host.laid;
       specs = host.specs;
@@ -99,8 +107,10 @@ returns-clause-host g c =
         scraped = grown_scraped setup c.args.scenario.now.lines (view_in before) (view_in after) back.grows served.scraped;
         started = back.started;
         few = back.few;
+        in_order = grown_ordered setup c.args.scenario.now.lines (view_in before) (view_in after) back.grows served.in_order;
+        kept = back.kept;
       };
-      collected = grown_collected setup c.args.scenario.now.lines (view_in before) (view_in after) back.grows collected;
+      collected = back.collected;
       pass = back.pass;
       known = back.known;
       tallied = back.tallied;

@@ -1,4 +1,4 @@
--- The table of the host, the buffers of its service as they were made, and what it knows. The ledger is that of the blank.
+-- The table of the host, the buffers of its service as they were made, and what it knows. The ledgers are those of the blanks.
 use Rattle.chunk_words.specs.Named.{identity_of}
 use Rattle.chunk_words.specs.Sits.{setup_in}
 use Rattle.service_core.specs.Agreement.{first_of}
@@ -12,10 +12,11 @@ ghosts-run_named-N-HostName g a = record {
   first = first_of (setup_in a.table.now) (core_of a.service);
   start = view_in a.service;
   lines = a.lines.now;
+  all = a.takings.parts;
 }
 
-abbrev pub ghosts-run_named-L-Ledger : goal.ghosts-run_named-L-Ledger
-ghosts-run_named-L-Ledger g a = record { name = a.takings.name; parts = a.takings.parts }
+abbrev pub ghosts-run_named-N-Ledger : goal.ghosts-run_named-N-Ledger
+ghosts-run_named-N-Ledger g a = record { name = a.takings.name; parts = a.takings.parts }
 
 abbrev pub ghosts-run_named-K-Ledger : goal.ghosts-run_named-K-Ledger
 ghosts-run_named-K-Ledger g a = record { name = a.readings.name; parts = a.readings.parts }

@@ -25,9 +25,10 @@ use Rattle.thread_service.specs.Reading.{IsKnownWhole}
 use Rattle.thread_host.specs.Growing.{IsHearing}
 use Rattle.thread_host.specs.Tally.{IsTally, KeepsServing}
 use Rattle.thread_host.specs.declared.tally.Tally.{Tally}
-use Rattle.thread_host.proofs.ReadAnswers.{hears_asked, only_session}
+use Rattle.thread_host.proofs.Ordered.{hears_ordered, same_ordered}
+use Rattle.thread_host.proofs.ReadAnswers.{hears_asked, hears_letters, only_session}
 use Rattle.thread_host.proofs.Seating.{seat_at, served_on, whole_tale}
-use Rattle.thread_host.proofs.SettledAnswers.{answered_seat, heard_collected, settle_keeps, tale_still, tally_there}
+use Rattle.thread_host.proofs.SettledAnswers.{answered_seat, heard_collected, settle_answers, settle_keeps, tale_still, tally_there}
 use Rattle.thread_host.proofs.TallyLemmas.{sums_are}
 use Rattle.thread_host.proofs.host.Host.settle.Goals as goal
 
@@ -80,10 +81,10 @@ returns-clause-takes c =
     let setup = setup_in c.args.self.table in
     let last : Service = c.settle.new.self in
     let heard = serving.view_in c.read_answers.new.service in
-    subst (λ (o : Option Service). IfSome o (λ before. (view : ServiceView) × IsHearing (serving.view_in before) view
+    subst (λ (o : Option Service). IfSome o (λ before. (view : ServiceView) × IsHearing (length setup.writers) (serving.view_in before) view
     × TakesAllOut setup (length setup.ranges) view (serving.view_in last))) (sym c.in-Some.is) (
       heard,
-      subst (λ (v : ServiceView). IsHearing v heard) c.end_writers.ensures.view c.read_answers.ensures.hears,
+      subst (λ (v : ServiceView). IsHearing (length setup.writers) v heard) c.end_writers.ensures.view c.read_answers.ensures.hears,
       subst (λ (v : ServiceView). TakesAllOut setup (length setup.ranges) v (serving.view_in last)) (c.mark.ensures.view ∙ c.compare.ensures.view) c.settle.ensures.takes,
     )
 
@@ -126,11 +127,14 @@ returns-clause-settled c scenario host played =
     let reads = c.read_answers.ensures in
     let heard_view = serving.view_in c.read_answers.new.service in
     let marked_view : serving.view_in marked ≡ heard_view = c.mark.ensures.view ∙ c.compare.ensures.view in
-    let hears = subst (λ (v : ServiceView). IsHearing v heard_view) ends.view reads.hears in
+    let writers : ℕ = length (setup_in table).writers in
+    let hears = subst (λ (v : ServiceView). IsHearing writers v heard_view) ends.view reads.hears in
+    let letters = hears_letters writers (serving.view_in first) heard_view hears in
+    let letters_same : (serving.view_in last).letters ≡ heard_view.letters = settles.letters ∙ ap (λ (v : ServiceView). v.letters) marked_view in
     let desk_told : (serving.desk_in c.compare.new.self).told ≡ (serving.desk_in mid).told =
     ap (λ (d : Desk). d.told) c.compare.ensures.desk ∙ ap (λ (d : Desk). d.told) reads.desk in
     let looks_same : length (serving.view_in mid).looks ≡ length (serving.view_in marked).looks =
-    sym (ap (λ (v : ServiceView). length v.looks) marked_view ∙ ap (λ (v : ServiceView). length v.looks) reads.hears.2) in
+    sym (ap (λ (v : ServiceView). length v.looks) marked_view ∙ ap (λ (v : ServiceView). length v.looks) (hears_letters writers (serving.view_in mid) heard_view reads.hears).2) in
     let seats : List WriterSeat = c.end_writers.new.seats.items in
     let was = subst (λ (o : Option Service). IsSomeAnd o (IsServed scenario table)) c.in-Some.is host.served in
     let keeps = settle_keeps (setup_in table) (serving.core_of first) (serving.core_of mid) (serving.core_of c.read_answers.new.service)
@@ -144,10 +148,14 @@ returns-clause-settled c scenario host played =
       laid = host.laid;
       producers = host.producers;
       served = served_on scenario table first last was settles.serves keeps
-          (settles.own ∙ ap (λ (v : ServiceView). v.commits) marked_view ∙ ap (λ (v : ServiceView). v.commits) hears.2)
+          (settles.own ∙ ap (λ (v : ServiceView). v.commits) marked_view ∙ ap (λ (v : ServiceView). v.commits) letters.2)
           (λ sequence. takes_out_none (setup_in table) (length (setup_in table).ranges) (serving.view_in marked) (serving.view_in last) settles.takes sequence
-          ∙ ap (λ (v : ServiceView). has_part sequence v.events) marked_view ∙ ap (λ (v : ServiceView). has_part sequence v.events) hears.2)
-          (ap asked_in (settles.letters ∙ ap (λ (v : ServiceView). v.letters) marked_view) ∙ hears_asked (serving.view_in first) heard_view hears);
+          ∙ ap (λ (v : ServiceView). has_part sequence v.events) marked_view ∙ ap (λ (v : ServiceView). has_part sequence v.events) letters.2)
+          (ap asked_in letters_same ∙ hears_asked writers (serving.view_in first) heard_view hears)
+          (same_ordered heard_view.letters (serving.view_in last).letters letters_same (hears_ordered writers (serving.view_in first) heard_view hears was.in_order))
+          (settle_answers (setup_in table) writers (serving.core_of first) (serving.core_of mid) (serving.core_of c.read_answers.new.service)
+          (serving.core_of c.compare.new.self) (serving.core_of marked) (serving.core_of last) ends.only c.compare.ensures.only c.mark.ensures.only settles.keeps
+          (ap (λ (v : ServiceView). v.letters) ends.view) letters_same reads.kept was.kept);
       many = ends.many;
       done = subst (λ (xs : List SequenceCounts). AreDoneSeats scenario.lines table seats xs)
           (sym (with_items_is c.args.self.counts.sequences wrote (omega (arith, long, lent, ok)))) done;
@@ -173,7 +181,7 @@ returns-clause-settled c scenario host played =
           (subst (λ (p : ℕ). StaysCompleted heard.tale.begun (writer marks.world p).begun) heard.place_is (marks.told heard.number heard.tale (subst (λ (told : List Tale). At told heard.number heard.tale) (sym desk_told) heard.told)));
       taken_by = record {
         collected = subst (λ (v : ServiceView). CollectedByLines (setup_in table) scenario.lines v) (sym (marks.view_is ∙ c.compare.ensures.view))
-            (heard_collected (setup_in table) scenario.lines (serving.view_in first) heard_view hears
+            (heard_collected (setup_in table) scenario.lines writers (serving.view_in first) heard_view hears
             (subst (λ (o : Option Service). IsSomeAnd o (λ service. CollectedByLines (setup_in table) scenario.lines (serving.view_in service)))
             c.in-Some.is host.collected));
         settles = subst (λ (v : ServiceView). TakesAllOut (setup_in table) (length (setup_in table).ranges) v (serving.view_in last))
@@ -188,8 +196,7 @@ returns-clause-settled c scenario host played =
           let tally = reads.tally (requests_in scenario.lines)
           (subst (λ (v : ServiceView). IsTally (requests_in scenario.lines) (length (setup_in table).writers) v.letters c.in-Some-tally.tally) (sym ends.view)
           (tally_there scenario table c.args.self.service first c.args.self.tally c.in-Some-tally.tally host.tallied c.in-Some.is c.in-Some-tally.is)) in
-          let same : (serving.view_in last).letters ≡ heard_view.letters = settles.letters ∙ ap (λ (v : ServiceView). v.letters) marked_view in
           ap (λ (v : _). v.items) c.into_sums.ensures
-          ∙ sums_are (requests_in scenario.lines) (length (setup_in table).writers) heard_view.letters c.read_answers.new.tally tally (sym (ap asked_in same) ∙ all)
-          ∙ ap (run_sums (length (setup_in table).writers)) (sym same);
+          ∙ sums_are (requests_in scenario.lines) (length (setup_in table).writers) heard_view.letters c.read_answers.new.tally tally (sym (ap asked_in letters_same) ∙ all)
+          ∙ ap (run_sums writers) (sym letters_same);
     }

@@ -1,4 +1,4 @@
-use Rattle.std.proofs.Common.{rules, ◌≡◌, ◌∙◌, ◌+◌, length, sym, ap, subst, arith}
+use Rattle.std.proofs.Common.{rules, ◌≡◌, ◌∙◌, ◌+◌, length, take, sym, ap, subst, arith}
 use Rattle.chunk_plain.specs.Setup.{Setup}
 use Rattle.chunk_plain.specs.Views.{ServiceView, asked_in}
 use Rattle.chunk_words.proofs.MailSteps.{asked_more}
@@ -12,8 +12,11 @@ use Rattle.replay_model.specs.Flushes.{requests_in}
 use Rattle.thread_service.specs.Requesting.{PassRequests}
 use Rattle.thread_service.specs.Serving.{core_of, view_in}
 use Rattle.thread_host.specs.Jobs.{TellsLine}
-use Rattle.thread_host.specs.Tally.{IsTally}
+use Rattle.thread_host.specs.Tally.{IsTally, KeepsAnswers}
+use Rattle.run_model.specs.Collected.{taken_by_lines}
+use Rattle.thread_host.proofs.Collected.{taken_still}
 use Rattle.thread_host.proofs.Growing.{request_grows}
+use Rattle.thread_host.proofs.KeptAnswers.{answers_asked}
 use Rattle.thread_host.proofs.ReadAnswers.{requested_view}
 use Rattle.thread_host.proofs.TallyLemmas.{tally_asked}
 use Rattle.thread_host.proofs.Telling.{request_tells}
@@ -64,6 +67,8 @@ invariant_of-self g c =
       began = search rules;
       own = ap (λ (v : ServiceView). v.commits) asks ∙ c.args.self.now.own;
       grows = request_grows g.N.HostName.setup g.N.HostName.lines g.N.HostName.start (view_in old) (view_in new) asks c.args.self.now.grows;
+      bounded = taken_still g.N.HostName.setup g.N.HostName.lines (take c.args.self.now.book.total (taken_by_lines g.N.HostName.lines)) (view_in old) (view_in new)
+          (ap (λ (v : ServiceView). v.taken) asks) c.args.self.now.bounded;
       started = ap (λ (s : SessionValue). s.state) session ∙ c.args.self.now.started;
       few =
           let more = ap (λ (v : ServiceView). asked_in v.letters) asks ∙ asked_more (view_in old).letters in
@@ -71,4 +76,6 @@ invariant_of-self g c =
           omega (arith, more, went, room);
       tallied = subst (λ (v : ServiceView). IsTally (requests_in g.N.HostName.lines) (length g.N.HostName.setup.writers) v.letters c.args.self.now.tally) (sym asks)
           (tally_asked (requests_in g.N.HostName.lines) (length g.N.HostName.setup.writers) (view_in old).letters c.args.self.now.tally c.args.self.now.tallied);
+      kept = subst (λ (v : ServiceView). KeepsAnswers (length g.N.HostName.setup.writers) v.letters (core_of new).session) (sym asks)
+          (answers_asked (length g.N.HostName.setup.writers) (view_in old).letters (core_of old).session (core_of new).session session c.args.self.now.kept);
     }
