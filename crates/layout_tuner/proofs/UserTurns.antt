@@ -1,5 +1,5 @@
 -- Each step of a user's seat keeps the rule, and tells what it does.
-use Rattle.std.proofs.Common.{◌≡◌, ◌≢◌, ℕ, ◌+◌, ◌*◌, ◌<◌, ◌≤◌, Bool, true, false, [], ◌∷◌, get_or, subst, sym, refl, ap, ◌∙◌, arith, bit_or, bit_and, eq-eqb, ne_eqb}
+use Rattle.std.proofs.Common.{◌≡◌, ◌≢◌, ℕ, ◌+◌, ◌*◌, ◌<◌, ◌≤◌, Bool, true, false, List, [], ◌∷◌, ◌++◌, get_or, subst, sym, refl, ap, ◌∙◌, arith, bit_or, bit_and, eq-eqb, ne_eqb}
 use Rattle.std.specs.Int.{bit_at}
 use Rattle.std.proofs.lemmas.Bool.Decides.{nat_tests}
 use Rattle.std.specs.Prelude.{if◌then◌else◌, nat_lt, nat_eq}
@@ -15,10 +15,10 @@ use Rattle.chunk_plain.proofs.Lists.{times-here, times-other, times-both, times-
 use Rattle.layout_tuner.specs.declared.table.Shape.{Shape}
 use Rattle.layout_tuner.specs.declared.moves.Move.TheVariants as move
 use Rattle.layout_tuner.specs.PageWords.{spot, line, chunks_of, layout_in, generation_in, is_clear, IsTiled}
-use Rattle.layout_tuner.specs.Knows.{UserView, User, seen_in, claims, begins, completes, gives, retiles, elsewhere, first_spots}
+use Rattle.layout_tuner.specs.Knows.{Ask, UserView, User, seen_in, claims, begins, completes, gives, retiles, elsewhere, first_spots}
 use Rattle.layout_tuner.specs.World.{Status, Outside, Unclaimed, Claimed, Held, Complete, low_of, high_of, claim_of, claims_of, holds_of, reads_of, waits_of, IsMine, put, World, IsOwned}
 use Rattle.layout_tuner.specs.Rule.{ShowsPage, IsTuned}
-use Rattle.layout_tuner.specs.Plays.{HasPlace, HasPage, After}
+use Rattle.layout_tuner.specs.Plays.{HasPlace, HasPage, Claims, After}
 use Rattle.layout_tuner.proofs.Puts.{few_chunks, some_chunks}
 use Rattle.layout_tuner.proofs.WordBits.{shown_place, or_set, clear_bit, set_bit}
 use Rattle.layout_tuner.proofs.Spots.{is_of-here, is_of-other, times-elsewhere_here, times-elsewhere_other, times-first_spots, times-first_spots_behind, times-first_spots_other}
@@ -53,9 +53,9 @@ module _ (users : ℕ) (world : World) (user page place : ℕ) (v : UserView) (o
 
   -- ---- claim
 
-  -- a claim in vain changes nothing but the list of claims
-  asks_turns : (found : ℕ) → Turns users world user page (world.status page) (world.layouts page) (world.generations page) v (claims v page place found false)
-  asks_turns found = record {
+  -- a claim in vain changes nothing but the list of claims, and a test that finds a place free not even that
+  asks_turns : (asked : List Ask) → Turns users world user page (world.status page) (world.layouts page) (world.generations page) v (record v { asked = asked })
+  asks_turns asked = record {
     old_is = known;
     user_in = user_in;
     claims_here = λ q below. ap (λ (w : UserView). times (spot page q) w.claimed) known ∙ owned.claimed user page q below;
@@ -212,9 +212,25 @@ claim_page users world user page place mask found v true clear owned known user_
           (λ bit low high claim. bit_at-or_other found mask (32 + place) bit is_bit claim),
     )
 claim_page users world user page place mask found v false taken owned known user_in place_in is_bit shows = (
-  asks_turns users world user page place v owned known user_in place_in found,
+  asks_turns users world user page place v owned known user_in place_in (v.asked ++ record { page = page; place = place; found = found } ∷ []),
   subst (λ w. ShowsPage w (world.layouts page) (world.generations page) (world.status page)) (sym (or_set found mask (32 + place) is_bit (set_bit found place taken))) shows,
 )
+
+-- what a claim tells of the word that it found
+claim_tells : (users : ℕ) (world : World) (user page place found : ℕ) (v : UserView) → IsOwned users world → v ≡ world.users user → user < users → place < 14
+    → ShowsPage found (world.layouts page) (world.generations page) (world.status page) → Claims page place v found (claims v page place found (is_clear found place))
+claim_tells users world user page place found v owned known user_in place_in shows =
+    let free : is_clear found place ≡ true → world.status page place ≡ Unclaimed = λ clear. unclaimed_of (world.status page place) (sym (shows.claim place place_in) ∙ clear_bit found place clear) in
+    record {
+      fresh = λ clear. ap (λ (w : UserView). times (spot page place) w.claimed) known ∙ (owned.claimed user page place place_in ∙ ap (claims_of user) (free clear));
+      agrees = λ other below has. saw users world user page other v owned known user_in below has ∙ (λ i. (sym shows.layout_is i, sym shows.generation_is i));
+      inside = λ clear. dite (dec_le (chunks_of (world.layouts page)) place)
+          (λ over. absurd (let clash : Unclaimed ≡ Outside = sym (free clear) ∙ owned.outside page place over in cc))
+          (λ under. subst (λ l. place < chunks_of l) (sym shows.layout_is) (omega (arith, under)));
+      layout_least = subst (λ l. 1 ≤ l) (sym shows.layout_is) (owned.layout_least page);
+      layout_most = subst (λ l. l ≤ 5) (sym shows.layout_is) (owned.layout_most page);
+      new_is = refl;
+    }
 
 pub claims_allowed : (shape : Shape) (count id user page place mask : ℕ) (v : UserView) → page < shape.pages → place < 14 → IsBit mask (32 + place)
     → Allows (IsTuned shape) count id (User user v, []) (line page) (λ found. bit_or found mask) (λ found new. After (move.Claim page place) (User user v, []) found new)
@@ -223,22 +239,44 @@ claims_allowed shape count id user page place mask v inside place_in is_bit s r 
     let f = r.manned.each id (User user v) at in let user_in = user_inside shape s r id user v at in
     let shows = r.shows page inside in
     let after = claim_page shape.users world user page place mask found v won refl r.owned f.0 user_in place_in is_bit shows in
-    let view = claims v page place found won in
-    let free : won ≡ true → world.status page place ≡ Unclaimed = λ clear. unclaimed_of (world.status page place) (sym (shows.claim place place_in) ∙ clear_bit found place clear) in (
+    let view = claims v page place found won in (
       User user view,
       keeps,
       tt,
       user_keeps shape s r id user page (bit_or found mask) (claimed_places won (world.status page) place user) (world.layouts page) (world.generations page) v view at inside after.0 after.1,
+      (claim_tells shape.users world user page place found v r.owned f.0 user_in place_in shows, refl),
+    )
+
+-- ---- test
+
+-- the view of a user behind a test that found the place free or not
+abbrev tested : UserView → (page place found : ℕ) → (free : Bool) → UserView
+tested v page place found true = v
+tested v page place found false = claims v page place found false
+
+tested_turns : (users : ℕ) (world : World) (user page place found : ℕ) (v : UserView) (free : Bool) → IsOwned users world → v ≡ world.users user → user < users → place < 14
+    → Turns users world user page (world.status page) (world.layouts page) (world.generations page) v (tested v page place found free)
+tested_turns users world user page place found v true owned known user_in place_in = asks_turns users world user page place v owned known user_in place_in v.asked
+tested_turns users world user page place found v false owned known user_in place_in =
+    asks_turns users world user page place v owned known user_in place_in (v.asked ++ record { page = page; place = place; found = found } ∷ [])
+
+pub tests_allowed : (shape : Shape) (count id user page place : ℕ) (v : UserView) → page < shape.pages → place < 14
+    → Allows (IsTuned shape) count id (User user v, []) (line page) (λ found. found) (λ found new. After (move.Test page place) (User user v, []) found new)
+tests_allowed shape count id user page place v inside place_in s r deep at small =
+    let world = r.world in let found = get_or s.words (line page) 0 in let free = is_clear found place in
+    let f = r.manned.each id (User user v) at in let user_in = user_inside shape s r id user v at in
+    let shows = r.shows page inside in
+    let view = tested v page place found free in
+    let tells = claim_tells shape.users world user page place found v r.owned f.0 user_in place_in shows in (
+      User user view,
+      keeps,
+      tt,
+      user_keeps shape s r id user page found (world.status page) (world.layouts page) (world.generations page) v view at inside
+          (tested_turns shape.users world user page place found v free r.owned f.0 user_in place_in) shows,
       (
         record {
-          fresh = λ clear. ap (λ (w : UserView). times (spot page place) w.claimed) f.0 ∙ (r.owned.claimed user page place place_in ∙ ap (claims_of user) (free clear));
-          agrees = λ other below has. saw shape.users world user page other v r.owned f.0 user_in below has ∙ (λ i. (sym shows.layout_is i, sym shows.generation_is i));
-          inside = λ clear. dite (dec_le (chunks_of (world.layouts page)) place)
-              (λ over. absurd (let clash : Unclaimed ≡ Outside = sym (free clear) ∙ r.owned.outside page place over in cc))
-              (λ under. subst (λ l. place < chunks_of l) (sym shows.layout_is) (omega (arith, under)));
-          layout_least = subst (λ l. 1 ≤ l) (sym shows.layout_is) (r.owned.layout_least page);
-          layout_most = subst (λ l. l ≤ 5) (sym shows.layout_is) (r.owned.layout_most page);
-          new_is = refl;
+          taken = λ taken. subst (Claims page place v found) (ap (claims v page place found) taken ∙ sym (ap (tested v page place found) taken)) tells;
+          free = λ clear. ap (tested v page place found) clear;
         },
         refl,
       ),

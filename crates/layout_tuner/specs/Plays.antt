@@ -3,7 +3,7 @@ use Rattle.std.specs.Prelude.{◌≡◌, ℕ, ◌+◌, ◌<◌, ◌≤◌, true,
 use Rattle.atomic_table.specs.Table.{Me}
 use Rattle.chunk_plain.specs.Owned.{times}
 use Rattle.layout_tuner.specs.declared.moves.Move.{Move}
-use Rattle.layout_tuner.specs.declared.moves.Move.TheVariants.{Claim, Begin, Complete, Give, Retile, Look, Take, Release}
+use Rattle.layout_tuner.specs.declared.moves.Move.TheVariants.{Test, Claim, Begin, Complete, Give, Retile, Look, Take, Release}
 use Rattle.layout_tuner.specs.PageWords.{spot, chunks_of, layout_in, generation_in, is_clear, is_full}
 use Rattle.layout_tuner.specs.Knows.{UserView, CollectView, Watch, Nothing, Full, Knows, User, seen_in, told_by, view_of, collector_of, claims, begins, completes, gives, retiles, looks_at, takes_in, lets_go, by_user, by_collector}
 use Rattle.layout_tuner.specs.World.{total}
@@ -25,6 +25,12 @@ pub record Claims (page place : ℕ) (old : UserView) (found : ℕ) (new : UserV
   pub layout_least : 1 ≤ layout_in found
   pub layout_most : layout_in found ≤ 5
   pub new_is : new ≡ claims old page place found (is_clear found place)
+
+-- A user read this word before a claim. Where the claim bit is set, that is a claim in vain: an or with a bit that is set leaves the word as
+-- it is, so a load that finds it set is that or. Where the bit is clear, nothing was done.
+pub record Tests (page place : ℕ) (old : UserView) (found : ℕ) (new : UserView) : Type 0 where
+  pub taken : is_clear found place ≡ false → Claims page place old found new
+  pub free : is_clear found place ≡ true → new ≡ old
 
 -- a user's view changes in a known way
 abbrev pub Does : (UserView → UserView) → Mine → Mine → Type 0
@@ -50,6 +56,7 @@ Serves step me new = new ≡ (by_collector Nothing step me.0, [])
 
 -- what a step tells of what was known before it, the number that it found, and what is known behind it
 abbrev pub After : Move → Mine → ℕ → Mine → Type 0
+After (Test page place) me found new = Tests page place (view_of me.0) found (view_of new.0) × Does (λ _. view_of new.0) me new
 After (Claim page place) me found new = Claims page place (view_of me.0) found (view_of new.0) × Does (λ _. view_of new.0) me new
 After (Begin page place) me found new = Does (λ view. begins view (spot page place)) me new
 After (Complete page place) me found new = Does (λ view. completes view (spot page place)) me new

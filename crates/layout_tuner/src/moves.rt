@@ -3,6 +3,12 @@
 /// A step, with all that its seat keeps of it beside what it finds.
 #[derive(Clone, Copy)]
 pub enum Move {
+    /// A user reads the word of a place before it sets the place's claim bit. Where it finds the bit
+    /// set, that is a claim in vain.
+    Test {
+        page: u8,
+        place: u8,
+    },
     /// A user sets the claim bit of a place.
     Claim {
         page: u8,

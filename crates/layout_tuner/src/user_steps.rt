@@ -1,20 +1,54 @@
-//! The steps of a user's seat: each is one atomic step on the word of a page.
+//! The steps of a user's seat: each is one atomic step on the word of a page, but for a claim, which
+//! reads the word before it changes it.
 ghost use Rattle.std.specs.Prelude.{◌≡◌, ℕ, ◌+◌, ◌<◌, ◌≤◌};
 ghost use Rattle.layout_tuner.specs.PageWords.{spot, chunks_of};
 ghost use Rattle.layout_tuner.specs.Knows.{begins, completes, gives, retiles};
-ghost use Rattle.layout_tuner.specs.Plays.{Claims, HasPage};
+ghost use Rattle.layout_tuner.specs.Plays.{Claims, Tests, HasPage};
 ghost use Rattle.layout_tuner.specs.Sits.{Sits, HasClaimed, HasHeld, known_by};
 
 use crate::moves::Move;
 use crate::seats::TuneSeat;
-use crate::steps::{make_and, make_or, make_store};
+use crate::steps::{make_and, make_load, make_or, make_store};
 use crate::table::{LAST_GENERATION, TuneTable, chunk_count, tiled_word};
+use page_geometry::PageWord;
 use page_geometry::masks::{begin_mask, claim_bit, complete_mask};
 use trace_base::limits::MAX_CHUNKS_PER_PAGE;
 
 impl TuneTable {
-    /// Sets the claim bit of a place.
+    /// Claims a place. A claim whose bit is set already changes nothing, so a load that finds it set is
+    /// all of it: it leaves the word's cache line with all cores that read it, where an or would take
+    /// the line away from them. Else the or decides, whatever the load found.
     pub(crate) fn step_claim(&self, seat: &mut TuneSeat, page: u8, place: u8) -> u64
+        requires seat { Sits self.now seat.old }
+        requires page { page < self.now.shape.pages }
+        requires place { place < MAX_CHUNKS_PER_PAGE }
+        ensures seat { Sits self.now seat.new }
+        ensures number { seat.new.number ≡ seat.old.number }
+        ensures claims { Claims page place (known_by seat.old) result (known_by seat.new) }
+    {
+        let found = self.step_test(seat, page, place);
+        if PageWord(found).claimed(place) {
+            return found;
+        }
+        self.step_set(seat, page, place)
+    }
+
+    /// Reads the word of a place before a claim.
+    fn step_test(&self, seat: &mut TuneSeat, page: u8, place: u8) -> u64
+        requires seat { Sits self.now seat.old }
+        requires page { page < self.now.shape.pages }
+        requires place { place < MAX_CHUNKS_PER_PAGE }
+        ensures seat { Sits self.now seat.new }
+        ensures number { seat.new.number ≡ seat.old.number }
+        ensures tests { Tests page place (known_by seat.old) result (known_by seat.new) }
+    {
+        let step = Move::Test { page, place };
+        let table = &self.table;
+        make_load(&table.shared, &mut seat.seat, self.page_index(page), &step)
+    }
+
+    /// Sets the claim bit of a place.
+    fn step_set(&self, seat: &mut TuneSeat, page: u8, place: u8) -> u64
         requires seat { Sits self.now seat.old }
         requires page { page < self.now.shape.pages }
         requires place { place < MAX_CHUNKS_PER_PAGE }

@@ -1,6 +1,6 @@
 use Rattle.layout_tuner.specs.Knows.{view_of}
 use Rattle.layout_tuner.proofs.UserTurns.{claims_allowed}
-use Rattle.layout_tuner.proofs.table.TuneTable.step_claim.Goals as goal
+use Rattle.layout_tuner.proofs.table.TuneTable.step_set.Goals as goal
 
 pub make_or-requires-clause-allowed : goal.make_or-requires-clause-allowed
 make_or-requires-clause-allowed c =
