@@ -1,8 +1,9 @@
 //! How fast the table is whose pages are partitioned anew, on one thread. The input says what is timed,
-//! and how often: `claim N` for N rounds in which a user claims a chunk and gives it back, `retile N`
-//! for rounds in which it partitions a page anew and gives its chunks back, through all pages and
-//! layouts, `collect N` for rounds in which it claims, begins and completes a chunk, and the collector
-//! goes over all 56 places. `bench/tune.py` times it.
+//! and how often: `claim N` for N rounds in which a user claims a chunk and gives it back, `vain N` for
+//! rounds in which it claims one where none is free, `retile N` for rounds in which it partitions a
+//! page anew and gives its chunks back, through all pages and layouts, `collect N` for rounds in which
+//! it claims, begins and completes a chunk, and the collector goes over all 56 places. `bench/tune.py`
+//! times it.
 #![tactic(auto)]
 
 mod rounds;
@@ -28,6 +29,7 @@ fn main(rt: HostRuntime) -> io::Result<()> {
     };
     let kind = match word {
         "claim" => Kind::Claim,
+        "vain" => Kind::Vain,
         "retile" => Kind::Retile,
         _ => Kind::Collect,
     };

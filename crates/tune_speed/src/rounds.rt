@@ -2,6 +2,7 @@
 ghost use Rattle.std.specs.Prelude.{◌≡◌, ◌+◌, ◌*◌, ◌<◌, ◌≤◌, length, IfSome};
 ghost use Rattle.layout_tuner.specs.Closed.{HasNewSeats};
 ghost use Rattle.layout_tuner.specs.Sits.{Sits, Attends, known_by, known_by_collector};
+ghost use Rattle.tune_speed.specs.declared.rounds.TheConstants.{PLACES};
 ghost use Rattle.tune_speed.specs.Ready.{IsReady};
 
 use layout_tuner::{CollectSeat, TuneSeat, TuneTable};
@@ -15,9 +16,13 @@ use tune_run::give_all;
 #[derive(Clone, Copy)]
 pub enum Kind {
     Claim,
+    Vain,
     Retile,
     Collect,
 }
+
+/// The places of all pages.
+const PLACES: u64 = 56;
 
 /// A chunk is claimed and given back, so many times: how often one was won.
 fn claim_rounds<L: Ledger>(
@@ -38,6 +43,31 @@ fn claim_rounds<L: Ledger>(
         }
     }
     won
+}
+
+/// Chunks are claimed, begun and completed until none is free, which nobody collects, and then asked
+/// for so many times: how often none was free.
+fn vain_rounds<L: Ledger>(
+    table: &TuneTable,
+    seat: &mut TuneSeat,
+    rounds: u32,
+    steps: &mut Steps<L>,
+) -> u64
+    requires seat { Sits table.now seat.old }
+    ensures vain { length (known_by seat.new).sights + result ≡ length (known_by seat.old).sights + PLACES + rounds }
+    ensures seat { Sits table.now seat.new }
+{
+    let mut vain = 0;
+    for _round in 0..PLACES + u64::from(rounds) {
+        match table.claim(seat, steps) {
+            Some(claimed) => {
+                let held = table.begin(seat, claimed);
+                table.complete(seat, held);
+            }
+            None => vain += 1,
+        }
+    }
+    vain
 }
 
 /// A page is partitioned anew, and its chunks are given back: 1, or 0 where it wasn't.
@@ -137,6 +167,7 @@ fn go<L: Ledger>(alloc: Global, kind: Kind, rounds: u32, blank: Blank) -> Option
     let mut steps = Steps::<L>::new(blank);
     let done = match kind {
         Kind::Claim => claim_rounds(&table, &mut seat, rounds, &mut steps),
+        Kind::Vain => vain_rounds(&table, &mut seat, rounds, &mut steps),
         Kind::Retile => retile_rounds(&table, &mut seat, rounds, &mut steps),
         Kind::Collect => collect_rounds(&table, &mut seat, &mut collect, rounds, &mut steps),
     };
