@@ -1,29 +1,22 @@
 -- What a command did for what it was given: it isn't refused, and what follows for the words that ask for it.
-use Rattle.std.proofs.Common.{arith, ◌≡◌, ℕ, ◌<◌, ◌≤◌, List, length, Option, Some, None, Ok, IfSome, subst, sym, ap, ◌∙◌}
+use Rattle.std.proofs.Common.{arith, ◌≡◌, ℕ, ◌<◌, ◌≤◌, List, length, Option, Some, None, IfSome, subst, sym, ◌∙◌}
 use Rattle.byte_io.specs.Bytes.{Intake}
 use Rattle.trace_base.specs.declared.limits.TheConstants.{MAX_INPUT}
 use Rattle.trace_file.proofs.WholeLemmas.{traces_read_once}
 use Rattle.command_words.specs.declared.command.Command.{Command}
-use Rattle.command_words.specs.declared.command.Command.TheVariants.{Replay, Run, Read, Check, Gen, Tune}
-use Rattle.scenario_text.specs.Scenario.{Parts, scenario_of}
-use Rattle.tracesmb_top.specs.Words.{Ask, ReadsInput, LeavesReport, IsReplay}
-use Rattle.tracesmb_top.specs.Ran.{IsForThreads, run_refusal_by, run_refusal_of}
+use Rattle.command_words.specs.declared.command.Command.TheVariants.{Replay, Run, Read, Check, Gen, Clone, Tune}
+use Rattle.scenario_text.specs.Scenario.{Parts}
+use Rattle.tracesmb_top.specs.Words.{Ask, ReadsInput, LeavesReport, PlaysByLine}
 use Rattle.tracesmb_top.specs.Commands.{IsGiven, Refuses, Writes, Wrote, WrotePart, HasStalled}
-use Rattle.tracesmb_top.specs.Refusals.{refusal_by, refusal_of}
-use Rattle.tracesmb_top.proofs.CheckLemmas.{checked_unrefused}
+use Rattle.tracesmb_top.specs.Refusals.{refusal_of, IsFor}
+use Rattle.tracesmb_top.proofs.CheckLemmas.{checked_unrefused, none_refused}
 use Rattle.tracesmb_top.proofs.WordLemmas.{same_command}
 
 -- ---- what is done isn't refused
 
--- a text that is a scenario isn't
-said_unrefused : (given line : List ℕ) (parts : Parts) → scenario_of given ≡ Ok parts → refusal_of given ≡ Some line → ⊥
-unfolding refusal_of refusal_by
-said_unrefused given line parts is refused = let none : None ≡ Some line = sym (ap refusal_by is) ∙ refused in cc
-
--- nor is one that is for threads
-run_unrefused : (given line : List ℕ) (parts : Parts) → IsForThreads given parts → run_refusal_of given ≡ Some line → ⊥
-unfolding run_refusal_of run_refusal_by
-run_unrefused given line parts is refused = let none : None ≡ Some line = sym (ap run_refusal_by is.scenario_is ∙ is.fits) ∙ refused in cc
+-- a text that is a scenario for the command isn't
+said_unrefused : (command : Command) (given line : List ℕ) (parts : Parts) → IsFor command given parts → refusal_of command given ≡ Some line → ⊥
+said_unrefused command given line parts is refused = let none : None ≡ Some line = sym (none_refused command given parts is) ∙ refused in cc
 
 bytes_unrefused : (command : Command) (given bytes line : List ℕ) → Writes command given bytes → Refuses command given line → ⊥
 bytes_unrefused Read given bytes line summary refusal =
@@ -34,6 +27,7 @@ bytes_unrefused (Gen number writers packets) given bytes line writes refused = r
 bytes_unrefused (Tune users turns) given bytes line writes refused = refused
 bytes_unrefused Replay given bytes line writes refused = writes
 bytes_unrefused Run given bytes line writes refused = writes
+bytes_unrefused Clone given bytes line writes refused = writes
 
 -- A command that did something with what it was given: all that it does, a part of it, or all up to a stall.
 pub data IsTried (command : Command) (given : List ℕ) (old new : Intake) : Type 0 where
@@ -43,12 +37,15 @@ pub data IsTried (command : Command) (given : List ℕ) (old new : Intake) : Typ
 
 tried_unrefused : (command : Command) (given line : List ℕ) (old new : Intake) → IsTried command given old new
     → Refuses command given line → ⊥
-tried_unrefused Replay given line old new (wrote report is) refused = said_unrefused given line is.parts is.scenario_is refused
-tried_unrefused Replay given line old new (wrote_part is) refused = said_unrefused given line is.parts is.scenario_is refused
-tried_unrefused Replay given line old new (has_stalled writer is) refused = said_unrefused given line is.parts is.scenario_is refused
-tried_unrefused Run given line old new (wrote report is) refused = run_unrefused given line is.parts is.for_threads refused
-tried_unrefused Run given line old new (wrote_part is) refused = run_unrefused given line is.parts is.for_threads refused
+tried_unrefused Replay given line old new (wrote report is) refused = said_unrefused Replay given line is.parts is.for_replay refused
+tried_unrefused Replay given line old new (wrote_part is) refused = said_unrefused Replay given line is.parts is.for_replay refused
+tried_unrefused Replay given line old new (has_stalled writer is) refused = said_unrefused Replay given line is.parts is.for_replay refused
+tried_unrefused Run given line old new (wrote report is) refused = said_unrefused Run given line is.parts is.for_threads refused
+tried_unrefused Run given line old new (wrote_part is) refused = said_unrefused Run given line is.parts is.for_threads refused
 tried_unrefused Run given line old new (has_stalled writer is) refused = is
+tried_unrefused Clone given line old new (wrote report is) refused = said_unrefused Clone given line is.parts is.for_clone refused
+tried_unrefused Clone given line old new (wrote_part is) refused = said_unrefused Clone given line is.parts is.for_clone refused
+tried_unrefused Clone given line old new (has_stalled writer is) refused = said_unrefused Clone given line is.parts is.for_clone refused
 tried_unrefused Read given line old new (wrote report is) refused = bytes_unrefused Read given is.0.bytes line is.0.writes refused
 tried_unrefused Read given line old new (wrote_part is) refused = bytes_unrefused Read given is.bytes line is.writes refused
 tried_unrefused Read given line old new (has_stalled writer is) refused = is
@@ -63,6 +60,7 @@ tried_unrefused (Tune users turns) given line old new tried refused = refused
 pub refused_reads : (command : Command) (given line : List ℕ) → Refuses command given line → ReadsInput command
 refused_reads Replay given line refused = tt
 refused_reads Run given line refused = tt
+refused_reads Clone given line refused = tt
 refused_reads Read given line refused = tt
 refused_reads Check given line refused = tt
 refused_reads (Gen number writers packets) given line refused = refused
@@ -71,19 +69,31 @@ refused_reads (Tune users turns) given line refused = refused
 pub report_reads : (command : Command) → LeavesReport command → ReadsInput command
 report_reads Replay is = tt
 report_reads Run is = tt
+report_reads Clone is = tt
 report_reads Read is = tt
 report_reads Check is = tt
 report_reads (Gen number writers packets) is = is
 report_reads (Tune users turns) is = is
 
--- `replay` leaves a report
-pub replay_reports : (command : Command) → IsReplay command → LeavesReport command
-replay_reports Replay is = tt
-replay_reports Run is = tt
-replay_reports Read is = is
-replay_reports Check is = is
-replay_reports (Gen number writers packets) is = is
-replay_reports (Tune users turns) is = is
+-- what plays line by line leaves a report
+pub played_reports : (command : Command) → PlaysByLine command → LeavesReport command
+played_reports Replay is = tt
+played_reports Run is = tt
+played_reports Clone is = tt
+played_reports Read is = is
+played_reports Check is = is
+played_reports (Gen number writers packets) is = is
+played_reports (Tune users turns) is = is
+
+-- where a writer stalled, the command plays line by line
+pub stalled_by_line : (command : Command) (given : List ℕ) (writer : ℕ) (old new : Intake) → HasStalled command given writer old new → PlaysByLine command
+stalled_by_line Replay given writer old new has = tt
+stalled_by_line Clone given writer old new has = tt
+stalled_by_line Run given writer old new has = has
+stalled_by_line Read given writer old new has = has
+stalled_by_line Check given writer old new has = has
+stalled_by_line (Gen number writers packets) given writer old new has = has
+stalled_by_line (Tune users turns) given writer old new has = has
 
 -- ---- of words that ask for a command, and an input with so much left
 

@@ -12,7 +12,7 @@ use Rattle.replay_host.specs.declared.fault.HostFault.TheVariants.{OutOfMemory, 
 use Rattle.loss_report.specs.declared.counts.Done.{Done}
 use Rattle.replay_host.specs.Replaying.{HasReplayed, HasStopped, EndsEarly}
 use Rattle.replay_host.specs.Stopping.{TakesRecords}
-use Rattle.tracesmb_top.specs.Replayed.{TakesSome, Gathers, report_of}
+use Rattle.tracesmb_top.specs.Replayed.{TakesSome, Gathers, done_text}
 
 -- ---- a stop writes the same records, whatever the trace had taken before
 
@@ -120,7 +120,7 @@ gathered_of : (scenario : Parts) (result : Result Done HostFault) (loan loan' : 
     → Gathers scenario result old new waits
 gathered_of scenario (Ok done) loan loan' old new waits grown started replays early =
     let handed = lent_all loan loan' old new waits _ grown started replays.trace in
-    (replays_again scenario _ _ old (after_told new waits) (report_of done) replays handed.all, handed.grown)
+    (replays_again scenario _ _ old (after_told new waits) (done_text done) replays handed.all, handed.grown)
 gathered_of scenario (Err OutOfMemory) loan loan' old new waits grown started replays early =
     let lent = lent_by loan (after_told old []) in
     none_part old new (lent_part loan loan' old new waits [] started grown
@@ -172,7 +172,7 @@ passed_part scenario done old new left waits rest gathers passed =
     let bytes = trace_of (records_in scenario replays.setup replays.world) in
     record {
       bytes = bytes;
-      would = inl (report_of done, replays_again scenario _ _ old (after_told old bytes) (report_of done) replays refl);
+      would = inl (done_text done, replays_again scenario _ _ old (after_told old bytes) (done_text done) replays refl);
       part = handed_on old new left bytes waits rest (record { all = replays.trace; grown = gathers.1 }) passed;
     }
 

@@ -1,6 +1,7 @@
 pub mod WordLemmas
 pub mod UnfitLemmas
 pub mod CheckLemmas
+pub mod CloneLemmas
 pub mod DividerLemmas
 pub mod CommandLemmas
 pub mod GatherLemmas

@@ -13,7 +13,7 @@ use Rattle.run_model.specs.Runs.{FailsRun, Runs}
 use Rattle.thread_host.specs.Finishing.{EndsRun, HasRun}
 use Rattle.thread_host.specs.Jobs.{KeepsLoans}
 use Rattle.tracesmb_top.specs.Ran.{GathersRun, TakesSomeRun}
-use Rattle.tracesmb_top.specs.Replayed.{report_of}
+use Rattle.tracesmb_top.specs.Replayed.{done_text}
 use Rattle.tracesmb_top.proofs.GatherLemmas.{lent_all, none_part, up_to_all}
 
 -- where an adapter hands its bytes on as before, it stands on the same loan
@@ -66,7 +66,7 @@ run_gathered_of : (scenario : Parts) (result : Result Done HostFault) (loan loan
     → EndsRun scenario result (lent_by loan (after_told old [])) (lent_by loan' (after_told new waits)) → GathersRun scenario result old new waits
 run_gathered_of scenario (Ok done) loan loan' old new waits grown started runs =
     let handed = lent_all loan loan' old new waits _ grown started runs.trace in
-    (runs_again scenario _ _ old (after_told new waits) (report_of done) runs handed.all, handed.grown)
+    (runs_again scenario _ _ old (after_told new waits) (done_text done) runs handed.all, handed.grown)
 run_gathered_of scenario (Err OutOfMemory) loan loan' old new waits grown started ends =
     let lent = lent_by loan (after_told old []) in
     none_part old new (lent_part loan loan' old new waits [] started grown
@@ -104,6 +104,6 @@ passed_run_part scenario done old new left waits rest gathers passed =
     let bytes = trace_of (records_in scenario runs.setup runs.world) in
     record {
       bytes = bytes;
-      would = inl (report_of done, runs_again scenario _ _ old (after_told old bytes) (report_of done) runs refl);
+      would = inl (done_text done, runs_again scenario _ _ old (after_told old bytes) (done_text done) runs refl);
       part = handed_on old new left bytes waits rest (record { all = runs.trace; grown = gathers.1 }) passed;
     }

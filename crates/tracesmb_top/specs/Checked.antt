@@ -1,17 +1,16 @@
 -- What `check` does with an input: a scenario, a line `==`, and the bytes of a trace.
-use Rattle.std.specs.Prelude.{◌≡◌, ℕ, ◌+◌, ◌==◌, List, [], ◌∷◌, ◌++◌, length, take, drop, count_by, Option, Some, None, Result, Ok, Err, codes, decimal, if◌then◌else◌}
+use Rattle.std.specs.Prelude.{◌≡◌, ℕ, ◌+◌, ◌==◌, List, [], ◌∷◌, ◌++◌, length, take, drop, count_by, Option, Some, None, codes, decimal, if◌then◌else◌}
 use Rattle.std.specs.Str.{bytes_eq}
+use Rattle.command_words.specs.declared.command.Command.TheVariants.{Check}
 use Rattle.gap_check.specs.declared.verdict.Verdict.{Verdict}
 use Rattle.gap_check.specs.declared.verdict.Verdict.TheVariants.{Agrees, Differs}
 use Rattle.gap_check.specs.Verdicts.{IsVerdictOn}
-use Rattle.scenario_text.specs.declared.reason.Reason.{Reason}
 use Rattle.scenario_text.specs.Pieces.{pieces}
-use Rattle.scenario_text.specs.Scenario.{Parts, scenario_of}
-use Rattle.scenario_text.specs.Texts.{refusal_line}
+use Rattle.scenario_text.specs.Scenario.{Parts}
 use Rattle.scenario_text.specs.Emissions.{emitted_in}
 use Rattle.tracesmb_top.specs.declared.check.CheckingFault.{CheckingFault}
 use Rattle.tracesmb_top.specs.declared.check.CheckingFault.TheVariants.{OutOfMemory, Refused}
-use Rattle.tracesmb_top.specs.Refusals.{IsTraceRefusal}
+use Rattle.tracesmb_top.specs.Refusals.{refusal_of, IsFor, IsTraceRefusal}
 
 -- ---- the line that divides an input
 
@@ -44,7 +43,7 @@ verdict_line (Differs packet sequence) = codes "differs packet " ++ decimal pack
 -- the verdict on a trace, by what the writers of a scenario emit
 pub record IsVerdictFrom (text trace : List ℕ) (verdict : Verdict) : Type 0 where
   pub parts : Parts
-  pub says : scenario_of text ≡ Ok parts
+  pub says : IsFor Check text parts
   pub on : IsVerdictOn (emitted_in parts) trace verdict
 
 -- the verdict on an input, which is divided
@@ -69,18 +68,22 @@ no_trace_line line = codes "line " ++ decimal line ++ codes ": no trace\n"
 abbrev pub line_behind : List ℕ → ℕ
 line_behind text = count_by (λ byte. byte == 10) text + 1
 
--- a scenario's first fault comes before what else refuses an input
-abbrev pub RefusesText : Result Parts (ℕ × Reason) → (List ℕ → Type 0) → List ℕ → Type 0
-RefusesText (Err fault) Otherwise line = line ≡ refusal_line fault.0 fault.1
-RefusesText (Ok parts) Otherwise line = Otherwise line
+-- why a scenario isn't checked, or else what else refuses the input
+abbrev pub RefusesLines : Option (List ℕ) → (List ℕ → Type 0) → List ℕ → Type 0
+RefusesLines (Some said) Otherwise line = line ≡ said
+RefusesLines None Otherwise line = Otherwise line
+
+-- a scenario's first fault, or its first line that isn't for `check`, comes before what else refuses an input
+abbrev pub RefusesText : List ℕ → (List ℕ → Type 0) → List ℕ → Type 0
+RefusesText text Otherwise line = RefusesLines (refusal_of Check text) Otherwise line
 
 -- the line refuses a scenario and a trace: by the scenario's first fault, or else by the trace's
 abbrev pub RefusesDivided : List ℕ → List ℕ → List ℕ → Type 0
-RefusesDivided text trace line = RefusesText (scenario_of text) (IsTraceRefusal trace) line
+RefusesDivided text trace line = RefusesText text (IsTraceRefusal trace) line
 
 -- the line refuses an input that no line divides: by its first fault as a scenario, or else since it has no trace
 abbrev pub RefusesUndivided : List ℕ → List ℕ → Type 0
-RefusesUndivided input line = RefusesText (scenario_of input) (λ said. said ≡ no_trace_line (line_behind input)) line
+RefusesUndivided input line = RefusesText input (λ said. said ≡ no_trace_line (line_behind input)) line
 
 -- the line refuses an input that is divided here, or isn't
 abbrev pub RefusesAt : List ℕ → Option ℕ → List ℕ → Type 0

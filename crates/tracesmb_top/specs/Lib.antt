@@ -1,5 +1,6 @@
 pub mod Answers
 pub mod Checked
+pub mod Cloned
 pub mod Commands
 pub mod Refusals
 pub mod Replayed

@@ -3,25 +3,27 @@ use Rattle.std.specs.Prelude.{◌≡◌, ℕ, ◌⊎◌, List, Result, Ok, Err}
 use Rattle.byte_io.specs.Bytes.{Intake, after_told, IsGrown, TakesPart}
 use Rattle.loss_report.specs.declared.counts.Done.{Done}
 use Rattle.loss_report.specs.Report.{report_text}
-use Rattle.scenario_text.specs.Scenario.{Parts, scenario_of}
+use Rattle.command_words.specs.declared.command.Command.TheVariants.{Replay}
+use Rattle.scenario_text.specs.Scenario.{Parts}
 use Rattle.replay_model.specs.Played.{Replays}
 use Rattle.replay_host.specs.declared.fault.HostFault.{HostFault}
 use Rattle.replay_host.specs.declared.fault.HostFault.TheVariants as stops
 use Rattle.replay_host.specs.Replaying.{HasReplayed, HasStopped}
+use Rattle.tracesmb_top.specs.Refusals.{IsFor}
 
 -- The text is a scenario, and was replayed to its end: the trace took the records of its lines and nothing else, and these bytes are its
 -- report. The delivery theorem is in `Replays`: the records are faithful to what the writers emitted, the report counts each packet once,
 -- and where chunks and bytes are enough, none is missing.
 pub record IsReplayed (text : List ℕ) (old new : Intake) (report : List ℕ) : Type 0 where
   pub parts : Parts
-  pub scenario_is : scenario_of text ≡ Ok parts
+  pub for_replay : IsFor Replay text parts
   pub replays : Replays parts old new report
 
 -- The text is a scenario, and its replay stopped where a writer stalled: the trace took the records of the reads before, and nothing else.
 -- They are faithful to what the writers emit by all the lines (`HasStopped`).
 pub record IsStalled (text : List ℕ) (writer : ℕ) (old new : Intake) : Type 0 where
   pub parts : Parts
-  pub scenario_is : scenario_of text ≡ Ok parts
+  pub for_replay : IsFor Replay text parts
   pub stops : HasStopped parts (stops.Stalled writer) old new
 
 -- What the trace takes of a scenario's replay: all to its end, or all up to a stop. To its end and up to a stall these are records that are
@@ -39,12 +41,12 @@ pub record TakesSome (scenario : Parts) (old new : Intake) : Type 0 where
 -- The text is a scenario, and the trace took a front part of what its replay writes.
 pub record IsCutShort (text : List ℕ) (old new : Intake) : Type 0 where
   pub parts : Parts
-  pub scenario_is : scenario_of text ≡ Ok parts
+  pub for_replay : IsFor Replay text parts
   pub takes : TakesSome parts old new
 
 -- the report of what a replay left
-abbrev pub report_of : Done → List ℕ
-report_of done = report_text done.buffers.items done.sequences.items done.flushes.items
+abbrev pub done_text : Done → List ℕ
+done_text done = report_text done.buffers.items done.sequences.items done.flushes.items
 
 -- ---- a trace that gathers short writes into long ones
 

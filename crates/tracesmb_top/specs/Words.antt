@@ -1,7 +1,7 @@
 -- The words that the program has a command for.
 use Rattle.std.specs.Prelude.{ℕ, List}
 use Rattle.command_words.specs.declared.command.Command.{Command}
-use Rattle.command_words.specs.declared.command.Command.TheVariants.{Gen, Replay, Run, Tune}
+use Rattle.command_words.specs.declared.command.Command.TheVariants.{Clone, Gen, Replay, Run, Tune}
 use Rattle.command_words.specs.Commands.{Spells}
 
 -- the words ask for the command: they are its written form
@@ -26,9 +26,11 @@ AskForNoInput words = (command : Command) → Ask words command → ReadsInput c
 abbrev pub LeavesReport : Command → Type 0
 LeavesReport Replay = Unit {0}
 LeavesReport Run = Unit {0}
+LeavesReport Clone = Unit {0}
 LeavesReport other = ⊥
 
--- the command is `replay`, in which alone a writer ends stalled
-abbrev pub IsReplay : Command → Type 0
-IsReplay Replay = Unit {0}
-IsReplay other = ⊥
+-- the command plays a scenario line by line, on one thread: in `replay` and `clone` alone a writer ends stalled
+abbrev pub PlaysByLine : Command → Type 0
+PlaysByLine Replay = Unit {0}
+PlaysByLine Clone = Unit {0}
+PlaysByLine other = ⊥

@@ -1,14 +1,18 @@
 //! The command `check`: a scenario and a trace in one input, and whether the trace tells of the scenario.
-ghost use Rattle.std.specs.Prelude.{◌≡◌, ◌+◌, ◌≤◌, ◌<◌, ◌^◌, ◌==◌, length, count_by, IfOk, IfErr, IfSome};
+ghost use Rattle.std.specs.Prelude.{◌≡◌, ◌+◌, ◌≤◌, ◌<◌, ◌^◌, ◌==◌, None, Some, length, count_by, IfOk, IfErr, IfSome};
+ghost use Rattle.scenario_text.specs.Scenario.{IsScenario, parts_of};
+ghost use Rattle.tracesmb_top.specs.Refusals.{refusal_of, IsFor};
 ghost use Rattle.tracesmb_top.specs.Checked as checked;
 ghost use Rattle.tracesmb_top.specs.Checked.{GivesRefusal, IsCheckRefusal, IsVerdictFor, IsVerdictFrom, RefusesDivided, RefusesUndivided, divider_of, line_behind};
 
 use crate::say::trace_fault_line;
+use crate::unfit::find_unfit;
 use arrayvec::ArrayVec;
+use command_words::Command;
 use gap_check::{CheckFault, Verdict};
 use memchr::memmem;
 use scenario_check::check_run;
-use scenario_text::{ScenarioFault, read_scenario, refusal_line};
+use scenario_text::{Scenario, ScenarioFault, read_scenario, refusal_line};
 use std::alloc::Global;
 use trace_base::limits::MAX_INPUT;
 
@@ -79,27 +83,13 @@ pub fn verdict_line(verdict: Verdict) -> ArrayVec<u8, 128>
     bytes
 }
 
-/// Why an input that no line divides isn't checked.
-fn undivided_fault(alloc: Global, input: &[u8]) -> CheckingFault
-    requires { length input.now ≤ MAX_INPUT }
-    ensures { GivesRefusal (RefusesUndivided input.now) result }
-{
-    match read_scenario(alloc, input) {
-        Ok(_) => CheckingFault::Refused {
-            refusal: no_trace_line(line_behind(input)),
-        },
-        Err(ScenarioFault::OutOfMemory) => CheckingFault::OutOfMemory,
-        Err(ScenarioFault::Bad { line, reason }) => CheckingFault::Refused {
-            refusal: refusal_line(line, reason),
-        },
-    }
-}
-
-/// The verdict on a trace, by the scenario of a text.
-fn divided_verdict(alloc: Global, text: &[u8], trace: &[u8]) -> Result<Verdict, CheckingFault>
+/// The scenario of a text, where it is one for `check`.
+#[tactic(auto, unfolding(crate::specs::Refusals::refusal_of, crate::specs::Refusals::refusal_by))]
+fn checked_scenario(alloc: Global, text: &[u8]) -> Result<Scenario, CheckingFault>
     requires { length text.now ≤ MAX_INPUT }
-    ensures verdict { IfOk result (IsVerdictFrom text.now trace.now) }
-    ensures fault { IfErr result (GivesRefusal (RefusesDivided text.now trace.now)) }
+    ensures ok { IfOk result (λ scenario. IsScenario scenario × IsFor Command.Check text.now (parts_of scenario)) }
+    ensures refused { IfOk result (λ _. refusal_of Command.Check text.now ≡ None) }
+    ensures fault { IfErr result (GivesRefusal (λ line. refusal_of Command.Check text.now ≡ Some line)) }
 {
     let scenario = match read_scenario(alloc, text) {
         Ok(scenario) => scenario,
@@ -109,6 +99,35 @@ fn divided_verdict(alloc: Global, text: &[u8], trace: &[u8]) -> Result<Verdict, 
                 refusal: refusal_line(line, reason),
             });
         }
+    };
+    match find_unfit(Command::Check, &scenario.lines) {
+        Some(refusal) => Err(CheckingFault::Refused { refusal }),
+        None => Ok(scenario),
+    }
+}
+
+/// Why an input that no line divides isn't checked.
+fn undivided_fault(alloc: Global, input: &[u8]) -> CheckingFault
+    requires { length input.now ≤ MAX_INPUT }
+    ensures { GivesRefusal (RefusesUndivided input.now) result }
+{
+    match checked_scenario(alloc, input) {
+        Ok(_scenario) => CheckingFault::Refused {
+            refusal: no_trace_line(line_behind(input)),
+        },
+        Err(fault) => fault,
+    }
+}
+
+/// The verdict on a trace, by the scenario of a text.
+fn divided_verdict(alloc: Global, text: &[u8], trace: &[u8]) -> Result<Verdict, CheckingFault>
+    requires { length text.now ≤ MAX_INPUT }
+    ensures verdict { IfOk result (IsVerdictFrom text.now trace.now) }
+    ensures fault { IfErr result (GivesRefusal (RefusesDivided text.now trace.now)) }
+{
+    let scenario = match checked_scenario(alloc, text) {
+        Ok(scenario) => scenario,
+        Err(fault) => return Err(fault),
     };
     match check_run(alloc, &scenario, trace) {
         Ok(verdict) => Ok(verdict),

@@ -6,15 +6,16 @@ ghost use Rattle.tracesmb_top.specs.Commands.{CountsWrites, Ended};
 ghost use Rattle.tracesmb_top.specs.Given.{Suits, Tells};
 
 use crate::check::{CheckingFault, verdict_for, verdict_line};
+use crate::cloning::play_cloning;
 use crate::gather;
 use crate::input::Given;
+use crate::report::Report;
 use crate::say::trace_fault_line;
 use crate::unfit::find_unfit;
 use arrayvec::ArrayVec;
 use byte_io::put::{WriteFault, put_all};
 use byte_io::traits::{Gate, Sink};
 use command_words::Command;
-use loss_report::Done;
 use replay_host::HostFault;
 use scenario_text::{Scenario, ScenarioFault, refusal_line};
 use std::alloc::{AllocError, Global};
@@ -37,12 +38,12 @@ pub enum CommandFault {
 }
 
 /// Plays a scenario, and writes its trace; its report is left to be written.
-#[tactic(auto, unfolding(crate::specs::Refusals::refusal_of, crate::specs::Refusals::refusal_by))]
+#[tactic(auto, unfolding(crate::specs::Refusals::refusal_of, crate::specs::Refusals::refusal_by), using(crate::proofs::UnfitLemmas::fit_clones_none))]
 pub fn replay<T: Sink>(
     alloc: Global,
     said: Result<Scenario, ScenarioFault>,
     trace: &mut T,
-) -> Result<Option<Done>, CommandFault>
+) -> Result<Option<Report>, CommandFault>
     requires said { IfOk said IsScenario }
     requires may { T.may_write trace.old }
     ensures ends { (text : List ℕ) → GivesScenario said (scenario_of text)
@@ -58,8 +59,11 @@ pub fn replay<T: Sink>(
             });
         }
     };
+    if let Some(refusal) = find_unfit(Command::Replay, &scenario.lines) {
+        return Err(CommandFault::Refused { refusal });
+    }
     match gather::play(alloc, &scenario, trace) {
-        Ok(done) => Ok(Some(done)),
+        Ok(done) => Ok(Some(Report::Played(done))),
         Err(HostFault::OutOfMemory) => Err(CommandFault::OutOfMemory),
         Err(HostFault::WriteFault) => Err(CommandFault::WriteFault),
         Err(HostFault::Stalled { writer }) => Err(CommandFault::Stalled { writer }),
@@ -67,14 +71,14 @@ pub fn replay<T: Sink>(
 }
 
 /// Runs a scenario on threads, and writes its trace; its report is left to be written.
-#[tactic(auto, unfolding(crate::specs::Ran::run_refusal_of, crate::specs::Ran::run_refusal_by), using(crate::proofs::UnfitLemmas::fit_closes_none))]
+#[tactic(auto, unfolding(crate::specs::Refusals::refusal_of, crate::specs::Refusals::refusal_by), using(crate::proofs::UnfitLemmas::fit_closes_none))]
 pub fn run<R: Threads + Wait + Sync, T: Sink + Send, G: Gate + Sync>(
     rt: &R,
     alloc: Global,
     said: Result<Scenario, ScenarioFault>,
     trace: &mut T,
     gate: &G,
-) -> Result<Option<Done>, CommandFault>
+) -> Result<Option<Report>, CommandFault>
     requires said { IfOk said IsScenario }
     requires may { T.may_write trace.old }
     ensures ends { (text : List ℕ) → GivesScenario said (scenario_of text)
@@ -90,14 +94,45 @@ pub fn run<R: Threads + Wait + Sync, T: Sink + Send, G: Gate + Sync>(
             });
         }
     };
-    if let Some(refusal) = find_unfit(&scenario.lines) {
+    if let Some(refusal) = find_unfit(Command::Run, &scenario.lines) {
         return Err(CommandFault::Refused { refusal });
     }
     match gather::run(rt, alloc, &scenario, trace, gate) {
-        Ok(done) => Ok(Some(done)),
+        Ok(done) => Ok(Some(Report::Played(done))),
         Err(HostFault::OutOfMemory) => Err(CommandFault::OutOfMemory),
         Err(HostFault::WriteFault) => Err(CommandFault::WriteFault),
         Err(HostFault::Stalled { writer: _ }) => unreachable!(),
+    }
+}
+
+/// Plays a scenario, and writes the clones that its lines make of buffers; its report is left to be
+/// written.
+#[tactic(auto, unfolding(crate::specs::Refusals::refusal_of, crate::specs::Refusals::refusal_by), using(crate::proofs::UnfitLemmas::all_fit_clone))]
+pub fn clone<T: Sink>(
+    alloc: Global,
+    said: Result<Scenario, ScenarioFault>,
+    trace: &mut T,
+) -> Result<Option<Report>, CommandFault>
+    requires said { IfOk said IsScenario }
+    requires may { T.may_write trace.old }
+    ensures ends { (text : List ℕ) → GivesScenario said (scenario_of text)
+        → Ended Command.Clone text result (T.taken trace.old) (T.taken trace.new) }
+    ensures count { CountsWrites result (T.faults trace.old) (T.faults trace.new) }
+{
+    let scenario = match said {
+        Ok(scenario) => scenario,
+        Err(ScenarioFault::OutOfMemory) => return Err(CommandFault::OutOfMemory),
+        Err(ScenarioFault::Bad { line, reason }) => {
+            return Err(CommandFault::Refused {
+                refusal: refusal_line(line, reason),
+            });
+        }
+    };
+    match play_cloning(alloc, &scenario, trace) {
+        Ok(report) => Ok(Some(report)),
+        Err(HostFault::OutOfMemory) => Err(CommandFault::OutOfMemory),
+        Err(HostFault::WriteFault) => Err(CommandFault::WriteFault),
+        Err(HostFault::Stalled { writer }) => Err(CommandFault::Stalled { writer }),
     }
 }
 
@@ -106,7 +141,7 @@ pub fn read<T: Sink>(
     alloc: Global,
     records: &[u8],
     out: &mut T,
-) -> Result<Option<Done>, CommandFault>
+) -> Result<Option<Report>, CommandFault>
     requires { T.may_write out.old }
     ensures ends { Ended Command.Read records.now result (T.taken out.old) (T.taken out.new) }
     ensures count { CountsWrites result (T.faults out.old) (T.faults out.new) }
@@ -131,7 +166,7 @@ pub fn check<T: Sink>(
     alloc: Global,
     input: &[u8],
     out: &mut T,
-) -> Result<Option<Done>, CommandFault>
+) -> Result<Option<Report>, CommandFault>
     requires short { length input.now ≤ MAX_INPUT }
     requires may { T.may_write out.old }
     ensures ends { Ended Command.Check input.now result (T.taken out.old) (T.taken out.new) }
@@ -156,7 +191,7 @@ pub fn generate<T: Sink>(
     writers: u8,
     packets: u32,
     out: &mut T,
-) -> Result<Option<Done>, CommandFault>
+) -> Result<Option<Report>, CommandFault>
     requires limits { IsWithinLimits (Command.Gen number writers packets) }
     requires may { T.may_write out.old }
     ensures ends { (given : List ℕ) → Ended (Command.Gen number writers packets) given result (T.taken out.old) (T.taken out.new) }
@@ -179,7 +214,7 @@ pub fn tune<R: Threads + Sync, T: Sink, G: Gate + Sync>(
     turns: u32,
     trace: &mut T,
     gate: &G,
-) -> Result<Option<Done>, CommandFault>
+) -> Result<Option<Report>, CommandFault>
     requires limits { IsWithinLimits (Command.Tune users turns) }
     requires may { T.may_write trace.old }
     ensures ends { (given : List ℕ) → Ended (Command.Tune users turns) given result (T.taken trace.old) (T.taken trace.new) }
@@ -195,7 +230,7 @@ pub fn tune<R: Threads + Sync, T: Sink, G: Gate + Sync>(
     }
 }
 
-/// Does a command with what it was given, and writes on the trace; `replay` and `run` leave their report. All memory is taken before
+/// Does a command with what it was given, and writes on the trace; `replay`, `run` and `clone` leave their report. All memory is taken before
 /// the first byte.
 pub fn perform<R: Threads + Wait + Sync, T: Sink + Send, G: Gate + Sync>(
     rt: &R,
@@ -204,7 +239,7 @@ pub fn perform<R: Threads + Wait + Sync, T: Sink + Send, G: Gate + Sync>(
     given: Given,
     trace: &mut T,
     gate: &G,
-) -> Result<Option<Done>, CommandFault>
+) -> Result<Option<Report>, CommandFault>
     requires limits { IsWithinLimits command }
     requires suits { Suits command given }
     requires may { T.may_write trace.old }
@@ -215,6 +250,7 @@ pub fn perform<R: Threads + Wait + Sync, T: Sink + Send, G: Gate + Sync>(
         Given::Scenario(said) => match command {
             Command::Replay => replay(alloc, said, trace),
             Command::Run => run(rt, alloc, said, trace, gate),
+            Command::Clone => clone(alloc, said, trace),
             _ => unreachable!(),
         },
         Given::Bytes(bytes) => match command {

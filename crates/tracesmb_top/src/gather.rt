@@ -2,6 +2,7 @@
 //! long ones.
 ghost use Rattle.std.specs.Prelude.{◌≡◌, ◌≤◌, [], OnOk, IfErr, MatchResult};
 ghost use Rattle.byte_io.specs.Buffered.{pending_bytes};
+ghost use Rattle.scenario_text.specs.Clones.{ClonesNone};
 ghost use Rattle.scenario_text.specs.Scenario.{IsScenario, parts_of};
 ghost use Rattle.replay_host.specs.Replaying.{CountsOne, CountsStop, IsStall};
 ghost use Rattle.thread_host.specs.Hosts.{ClosesNone};
@@ -26,6 +27,7 @@ fn play_gathered<T: Sink>(
     trace: &mut T,
 ) -> Result<Done, HostFault>
     requires scenario { IsScenario scenario.now }
+    requires clones { ClonesNone scenario.now.lines }
     requires empty { pending_bytes pending.old ≡ [] }
     requires may { T.may_write trace.old }
     ensures gathers { Gathers (parts_of scenario.now) result (T.taken trace.old) (T.taken trace.new) (pending_bytes pending.new) }
@@ -41,6 +43,7 @@ fn play_gathered<T: Sink>(
 /// Plays a scenario, and writes its trace in long pieces. All memory is taken before the first line is played.
 pub fn play<T: Sink>(alloc: Global, scenario: &Scenario, trace: &mut T) -> Result<Done, HostFault>
     requires scenario { IsScenario scenario.now }
+    requires clones { ClonesNone scenario.now.lines }
     requires may { T.may_write trace.old }
     ensures plays { HasPlayed (parts_of scenario.now) result (T.taken trace.old) (T.taken trace.new) }
     ensures count { MatchResult result (λ _. T.faults trace.new ≡ T.faults trace.old) (λ fault. (T.faults trace.old ≤ T.faults trace.new)

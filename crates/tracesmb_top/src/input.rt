@@ -45,7 +45,7 @@ pub fn take_input<S: Source>(
     ensures taken { GivesAtMost (MAX_INPUT + 1) (S.left input.old) (S.left input.new) }
 {
     match command {
-        Command::Replay | Command::Run => match take_scenario(alloc, input) {
+        Command::Replay | Command::Run | Command::Clone => match take_scenario(alloc, input) {
             Ok(said) => Ok(Given::Scenario(said)),
             Err(fault) => Err(fault),
         },

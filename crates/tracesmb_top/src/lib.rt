@@ -4,9 +4,11 @@
 #![tactic(auto)]
 
 mod check;
+mod cloning;
 mod commands;
 mod gather;
 mod input;
+mod null_sink;
 mod report;
 mod say;
 mod top;

@@ -4,13 +4,12 @@ ghost use Rattle.byte_io.specs.Bytes.{after_told};
 ghost use Rattle.tracesmb_top.specs.Answers as answers;
 ghost use Rattle.tracesmb_top.specs.Answers.{Says, SaysBehind, usage_line, memory_line, read_line, write_line, long_line};
 ghost use Rattle.tracesmb_top.specs.Refusals as refusals;
-ghost use Rattle.tracesmb_top.specs.Replayed.{report_of};
+ghost use Rattle.tracesmb_top.specs.Cloned.{report_of};
 
-use crate::report::write_report;
+use crate::report::{Report, write_report};
 use arrayvec::ArrayVec;
 use byte_io::put::{WriteFault, put_all};
 use byte_io::traits::Sink;
-use loss_report::Done;
 use std::alloc::Global;
 use trace_file::TraceFault;
 
@@ -33,7 +32,7 @@ pub fn say_usage<O: Sink>(text: &mut O) -> u8
 {
     say(
         text,
-        b"usage: tracesmb replay|run|read|check|gen NUMBER WRITERS PACKETS|tune USERS TURNS\n",
+        b"usage: tracesmb replay|run|read|check|gen NUMBER WRITERS PACKETS|clone|tune USERS TURNS\n",
     );
     2
 }
@@ -110,18 +109,18 @@ pub fn say_stalled<O: Sink>(text: &mut O, writer: u16) -> u8
     6
 }
 
-/// Writes the report of what a replay or a run left. Where that fails, the line which says so is tried on the same
+/// Writes the report of what a command left. Where that fails, the line which says so is tried on the same
 /// text, which bears it.
-pub fn say_report<O: Sink>(alloc: Global, text: &mut O, done: &Done) -> u8
+pub fn say_report<O: Sink>(alloc: Global, text: &mut O, report: &Report) -> u8
     requires { (sink : O) → O.may_write sink }
     ensures status { (result ≡ 0) ⊎ (result ≡ 5) }
-    ensures all { result ≡ 0 → O.taken text.new ≡ after_told (O.taken text.old) (report_of done.now) }
+    ensures all { result ≡ 0 → O.taken text.new ≡ after_told (O.taken text.old) (report_of report.now) }
     ensures steady { result ≡ 0 → O.faults text.new ≡ O.faults text.old }
     ensures part { result ≡ 5 → SaysBehind (O.taken text.old) (O.taken text.new) (O.faults text.old) (O.faults text.new)
-        (report_of done.now) write_line }
+        (report_of report.now) write_line }
     ensures later { O.faults text.old ≤ O.faults text.new }
 {
-    match write_report(alloc, done, text) {
+    match write_report(alloc, report, text) {
         Ok(()) => 0,
         Err(WriteFault) => say_write_fault(text),
     }

@@ -3,8 +3,7 @@ ghost use Rattle.std.specs.Prelude.{◌≡◌, ◌≢◌, ℕ, ◌+◌, ◌<◌,
 ghost use Rattle.std.specs.String.{string_bytes};
 ghost use Rattle.byte_io.specs.Bytes.{after_told, Faulted, GivesAtMost, NoFault};
 ghost use Rattle.command_words.specs.declared.command.Command.{Command};
-ghost use Rattle.command_words.specs.declared.command.Command.TheVariants.{Replay};
-ghost use Rattle.tracesmb_top.specs.Words.{Ask, AskForNothing, AskForNoInput, IsReplay, LeavesReport, ReadsInput};
+ghost use Rattle.tracesmb_top.specs.Words.{Ask, AskForNothing, AskForNoInput, LeavesReport, PlaysByLine, ReadsInput};
 ghost use Rattle.tracesmb_top.specs.Commands.{Accepts, HasStalled, IsGiven, Refuses, Wrote, WrotePart};
 ghost use Rattle.tracesmb_top.specs.Answers.{Says, SaysBehind, usage_line, memory_line, read_line, write_line, stalled_line, long_line};
 
@@ -27,15 +26,15 @@ use trace_base::limits::MAX_INPUT;
 ///
 /// | status | comes | on `text` |
 /// |---|---|---|
-/// | 0 | the trace has taken what the command writes | the report for `replay` and `run`, else nothing |
+/// | 0 | the trace has taken what the command writes | the report for `replay`, `run` and `clone`, else nothing |
 /// | 1 | memory ran out, before anything was written | `out of memory` |
 /// | 2 | the words ask for no command | the usage |
 /// | 3 | the input is refused, by its first fault | `line L: REASON`, `offset N: REASON` |
 /// | 4 | the input failed | `read fault` |
 /// | 5 | the trace failed, and holds a front part of what it would have; or the text failed in the report | `write fault`, maybe behind a front part of the report |
-/// | 6 | a writer of the replay stalled; the trace holds the records of the reads before | `stalled: writer W` |
+/// | 6 | a writer of the replay stalled; under `replay` the trace holds the records of the reads before, under `clone` nothing | `stalled: writer W` |
 /// | 7 | the input has more than 67,108,864 bytes | `input too long` |
-#[tactic(auto, using(crate::proofs::WordLemmas::same_reads, crate::proofs::CommandLemmas::refused_reads, crate::proofs::CommandLemmas::report_reads, crate::proofs::CommandLemmas::replay_reports))]
+#[tactic(auto, using(crate::proofs::WordLemmas::same_reads, crate::proofs::CommandLemmas::refused_reads, crate::proofs::CommandLemmas::report_reads, crate::proofs::CommandLemmas::played_reports, crate::proofs::CommandLemmas::stalled_by_line))]
 pub fn trace_top<R: Threads + Wait + Sync, S: Source, T: Sink + Send, O: Sink, G: Gate + Sync>(
     rt: &R,
     alloc: Global,
@@ -56,7 +55,7 @@ pub fn trace_top<R: Threads + Wait + Sync, S: Source, T: Sink + Send, O: Sink, G
     ensures known { result ≤ 7 }
 
     // Status 0: the trace took what the command writes for what it was given, and the text its report; the input was read
-    // whole, and nothing failed. No command but `replay` and `run` has a report.
+    // whole, and nothing failed. No command but `replay`, `run` and `clone` has a report.
     ensures writes { result ≡ 0 → (command : Command) × (given report : List ℕ) × Ask (map string_bytes words.now) command
         × IsGiven command (S.left input.old) given × Wrote command given (T.taken trace.old) (T.taken trace.new) report
         × (O.taken text.new ≡ after_told (O.taken text.old) report) }
@@ -108,9 +107,9 @@ pub fn trace_top<R: Threads + Wait + Sync, S: Source, T: Sink + Send, O: Sink, G
         ⊎ (LeavesReport command × (report : List ℕ) × Wrote command given (T.taken trace.old) (T.taken trace.new) report
         × SaysBehind (O.taken text.old) (O.taken text.new) (O.faults text.old) (O.faults text.new) report write_line)) }
 
-    // Status 6: a writer stalled in `replay`. The trace has the records of the reads before.
-    ensures stalled { result ≡ 6 → (given : List ℕ) × (writer : ℕ) × Ask (map string_bytes words.now) Replay
-        × IsGiven Replay (S.left input.old) given × HasStalled Replay given writer (T.taken trace.old) (T.taken trace.new)
+    // Status 6: a writer stalled in `replay` or `clone`. The trace has the records of the reads before, or nothing.
+    ensures stalled { result ≡ 6 → (command : Command) × (given : List ℕ) × (writer : ℕ) × Ask (map string_bytes words.now) command
+        × IsGiven command (S.left input.old) given × HasStalled command given writer (T.taken trace.old) (T.taken trace.new)
         × Says (O.taken text.old) (O.taken text.new) (O.faults text.old) (O.faults text.new) (stalled_line writer) }
 
     // Status 7: exactly where more bytes came than an input may have.
@@ -130,7 +129,7 @@ pub fn trace_top<R: Threads + Wait + Sync, S: Source, T: Sink + Send, O: Sink, G
     ensures complete { (command : Command) → Ask (map string_bytes words.now) command
         → NoFault (S.faults input.old) (S.faults input.new) → NoFault (T.faults trace.old) (T.faults trace.new)
         → (LeavesReport command → NoFault (O.faults text.old) (O.faults text.new))
-        → (ReadsInput command → Accepts command (S.left input.old)) → (result ≡ 0) ⊎ (result ≡ 1) ⊎ (IsReplay command × (result ≡ 6)) }
+        → (ReadsInput command → Accepts command (S.left input.old)) → (result ≡ 0) ⊎ (result ≡ 1) ⊎ (PlaysByLine command × (result ≡ 6)) }
 {
     let command = match asked_command(alloc, words) {
         Ok(command) => command,
@@ -145,7 +144,7 @@ pub fn trace_top<R: Threads + Wait + Sync, S: Source, T: Sink + Send, O: Sink, G
     };
     match perform(rt, alloc, command, given, trace, gate) {
         Ok(None) => 0,
-        Ok(Some(done)) => say_report(alloc, text, &done),
+        Ok(Some(report)) => say_report(alloc, text, &report),
         Err(CommandFault::OutOfMemory) => say_out_of_memory(text),
         Err(CommandFault::Refused { refusal }) => say_refusal(text, &refusal),
         Err(CommandFault::WriteFault) => say_write_fault(text),

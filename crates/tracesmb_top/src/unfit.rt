@@ -1,16 +1,17 @@
-//! Which scenarios aren't for threads.
+//! Which scenarios aren't for a command.
 ghost use Rattle.std.specs.Prelude.{◌≡◌, ◌≤◌, Some, None, IfSome, IfNone, length};
-ghost use Rattle.tracesmb_top.specs.Ran as ran;
-ghost use Rattle.tracesmb_top.specs.Ran.{unfit_in};
+ghost use Rattle.tracesmb_top.specs.Refusals as refusals;
+ghost use Rattle.tracesmb_top.specs.Refusals.{unfit_in};
 
 use arrayvec::ArrayVec;
+use command_words::Command;
 use scenario_text::{LineKind, LineList};
 
 /// `line L: REASON`, with its line feed.
-#[tactic(auto, unfolding(crate::specs::Ran::unfit_line))]
+#[tactic(auto, unfolding(crate::specs::Refusals::unfit_line))]
 fn unfit_line(line: u32, words: &[u8]) -> ArrayVec<u8, 64>
     requires { length words.now ≤ 16 }
-    ensures { result.items ≡ ran.unfit_line line words.now }
+    ensures { result.items ≡ refusals.unfit_line line words.now }
 {
     let mut digits = itoa::Buffer::new();
     let mut bytes = ArrayVec::new();
@@ -22,26 +23,35 @@ fn unfit_line(line: u32, words: &[u8]) -> ArrayVec<u8, 64>
     bytes
 }
 
-/// What is said of a line, where it isn't one for threads.
-#[tactic(auto, unfolding(crate::specs::Ran::unfit_words))]
-fn line_unfit(line: u32, what: &LineKind<'_>) -> Option<ArrayVec<u8, 64>>
-    ensures some { IfSome result (λ said. ran.unfit_or (ran.unfit_words what.now) line None ≡ Some said.items) }
-    ensures none { IfNone result (ran.unfit_words what.now ≡ None) }
+/// What is said of a line, where it isn't one for the command.
+#[tactic(auto, unfolding(crate::specs::Refusals::unfit_words))]
+fn line_unfit(command: Command, line: u32, what: &LineKind<'_>) -> Option<ArrayVec<u8, 64>>
+    ensures some { IfSome result (λ said. refusals.unfit_or (refusals.unfit_words command what.now) line None ≡ Some said.items) }
+    ensures none { IfNone result (refusals.unfit_words command what.now ≡ None) }
 {
     match what {
-        LineKind::Close { producer: _ } => Some(unfit_line(line, b"not under run")),
+        LineKind::Close { producer: _ } => match command {
+            Command::Run => Some(unfit_line(line, b"not under run")),
+            _ => None,
+        },
+        LineKind::CloneBuffer { buffer: _ } => match command {
+            Command::Replay => Some(unfit_line(line, b"not under replay")),
+            Command::Run => Some(unfit_line(line, b"not under run")),
+            Command::Check => Some(unfit_line(line, b"not under check")),
+            _ => None,
+        },
         _ => None,
     }
 }
 
-/// The line that says why the lines aren't played on threads: the first one that isn't for them.
-pub fn find_unfit(lines: &LineList) -> Option<ArrayVec<u8, 64>>
-    ensures some { IfSome result (λ said. unfit_in lines.now ≡ Some said.items) }
-    ensures none { IfNone result (unfit_in lines.now ≡ None) }
+/// The line that says why the lines aren't played under the command: the first one that isn't for it.
+pub fn find_unfit(command: Command, lines: &LineList) -> Option<ArrayVec<u8, 64>>
+    ensures some { IfSome result (λ said. unfit_in command lines.now ≡ Some said.items) }
+    ensures none { IfNone result (unfit_in command lines.now ≡ None) }
 {
     let mut walk = lines.walk();
     'lines: while let Some(line) = walk.next() {
-        if let Some(said) = line_unfit(line.line, &line.what) {
+        if let Some(said) = line_unfit(command, line.line, &line.what) {
             return Some(said);
         }
     }

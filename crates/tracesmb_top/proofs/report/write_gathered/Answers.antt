@@ -12,11 +12,11 @@ returns-clause-all g c =
     let old : Intake = g.O.Sink.taken c.args.text.now in
     let same : g.O.Sink.taken c.new-gathered.result.inner.now ≡ old = ap g.O.Sink.taken c.new-gathered.ensures.inner in
     let none : pending_bytes c.new-gathered.result.pending.now ≡ [] = ap pending_bytes c.new-gathered.ensures.pending ∙ c.requires.empty in
-    let back = lent_whole c.put_report.result loan (buffered_loan c.put_report.new.out) _ old
-    (g.O.Sink.taken c.put_report.new.out.inner.now) (pending_bytes c.put_report.new.out.pending.now) _
+    let back = lent_whole c.put_lines.result loan (buffered_loan c.put_lines.new.out) _ old
+    (g.O.Sink.taken c.put_lines.new.out.inner.now) (pending_bytes c.put_lines.new.out.pending.now) _
     (lent_first loan _ _ _ same none)
-    c.put_report.new.out.grown c.new-gathered.ensures.start c.put_report.ensures.all in
-    grind (arith, common_steps, c.deref.ensures.value, c.deref-2.ensures.value, c.deref-3.ensures.value, back)
+    c.put_lines.new.out.grown c.new-gathered.ensures.start c.put_lines.ensures.all in
+    grind (arith, common_steps, back)
 
 -- where a write failed, it took a front part of it
 pub returns-clause-part : goal.returns-clause-part
@@ -25,8 +25,8 @@ returns-clause-part g c =
     let old : Intake = g.O.Sink.taken c.args.text.now in
     let same : g.O.Sink.taken c.new-gathered.result.inner.now ≡ old = ap g.O.Sink.taken c.new-gathered.ensures.inner in
     let none : pending_bytes c.new-gathered.result.pending.now ≡ [] = ap pending_bytes c.new-gathered.ensures.pending ∙ c.requires.empty in
-    let back = lent_front c.put_report.result loan (buffered_loan c.put_report.new.out) _ old
-    (g.O.Sink.taken c.put_report.new.out.inner.now) (pending_bytes c.put_report.new.out.pending.now) _
+    let back = lent_front c.put_lines.result loan (buffered_loan c.put_lines.new.out) _ old
+    (g.O.Sink.taken c.put_lines.new.out.inner.now) (pending_bytes c.put_lines.new.out.pending.now) _
     (lent_first loan _ _ _ same none)
-    c.put_report.new.out.grown c.new-gathered.ensures.start c.put_report.ensures.part in
-    grind (arith, common_steps, c.deref.ensures.value, c.deref-2.ensures.value, c.deref-3.ensures.value, back)
+    c.put_lines.new.out.grown c.new-gathered.ensures.start c.put_lines.ensures.part in
+    grind (arith, common_steps, back)

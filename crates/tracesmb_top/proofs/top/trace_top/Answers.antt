@@ -1,6 +1,6 @@
 use Rattle.std.proofs.Common.{[], map}
 use Rattle.std.specs.String.{string_bytes}
-use Rattle.tracesmb_top.specs.Replayed.{report_of}
+use Rattle.tracesmb_top.specs.Cloned.{report_of}
 use Rattle.tracesmb_top.proofs.CommandLemmas.{never_long, never_refused, wrote, wrote_part, has_stalled}
 use Rattle.tracesmb_top.proofs.top.trace_top.Goals as goal
 
@@ -14,7 +14,7 @@ pub returns-in-Ok-Some-clause-refuses : goal.returns-in-Ok-Some-clause-refuses
 returns-in-Ok-Some-clause-refuses g c = λ command ask quiet.
     let done = rw c.in-Ok-Some.field-0-is at c.in-Ok-Some.ensures in
     never_refused _ (map string_bytes c.args.words.now) c.in-Ok.command command _ c.in-Ok-take_input.ensures.given.text
-    (g.T.Sink.taken c.args.trace.now) (g.T.Sink.taken c.perform.new.trace) c.in-Ok.ensures.asked ask c.in-Ok-take_input.ensures.given.all (wrote (report_of c.in-Ok-Some.done) (done.ends c.in-Ok-take_input.ensures.given.text c.in-Ok-take_input.ensures.given.tells).1)
+    (g.T.Sink.taken c.args.trace.now) (g.T.Sink.taken c.perform.new.trace) c.in-Ok.ensures.asked ask c.in-Ok-take_input.ensures.given.all (wrote (report_of c.in-Ok-Some.report) (done.ends c.in-Ok-take_input.ensures.given.text c.in-Ok-take_input.ensures.given.tells).1)
 
 pub returns-in-Err-WriteFault-clause-refuses : goal.returns-in-Err-WriteFault-clause-refuses
 returns-in-Err-WriteFault-clause-refuses g c = λ command ask quiet.
