@@ -7,6 +7,8 @@
 #[cfg(test)]
 mod checks;
 #[cfg(test)]
+mod clones;
+#[cfg(test)]
 mod faults;
 #[cfg(test)]
 mod fields;

@@ -4,8 +4,7 @@ ghost use Rattle.std.specs.String.{string_bytes};
 ghost use Rattle.byte_io.specs.Bytes.{told, after_told, Faulted};
 ghost use Rattle.byte_io.specs.Memory.{mem_sink_taken, mem_sink_faults};
 ghost use Rattle.command_words.specs.declared.command.Command.{Command};
-ghost use Rattle.command_words.specs.declared.command.Command.TheVariants.{Replay};
-ghost use Rattle.tracesmb_top.specs.Words.{Ask, AskForNothing, IsReplay, LeavesReport, ReadsInput};
+ghost use Rattle.tracesmb_top.specs.Words.{Ask, AskForNothing, LeavesReport, PlaysByLine, ReadsInput};
 ghost use Rattle.tracesmb_top.specs.Commands.{Accepts, HasStalled, IsGiven, Refuses, Wrote, WrotePart};
 ghost use Rattle.tracesmb_top.specs.Answers.{Says, SaysBehind, usage_line, memory_line, write_line, stalled_line, long_line};
 
@@ -82,7 +81,7 @@ pub fn play<R: Threads + Wait + Sync + AllocGlobal>(
     ensures complete { IfOk result (λ played. (command : Command) → Ask (map (λ word. word.now) words.now) command
         → mem_sink_faults played.trace ≡ 0 → (LeavesReport command → mem_sink_faults played.text ≡ 0)
         → (ReadsInput command → Accepts command (Some input.now))
-        → (played.status ≡ 0) ⊎ (played.status ≡ 1) ⊎ (IsReplay command × (played.status ≡ 6))) }
+        → (played.status ≡ 0) ⊎ (played.status ≡ 1) ⊎ (PlaysByLine command × (played.status ≡ 6))) }
     ensures refused { IfOk result (λ played. played.status ≡ 3 → (command : Command) × (given line : List ℕ)
         × Ask (map (λ word. word.now) words.now) command × IsGiven command (Some input.now) given × Refuses command given line
         × Says (told [] []) (told (mem_sink_taken played.text) []) 0 (mem_sink_faults played.text) line) }
@@ -95,9 +94,9 @@ pub fn play<R: Threads + Wait + Sync + AllocGlobal>(
         × Says (told [] []) (told (mem_sink_taken played.text) []) 0 (mem_sink_faults played.text) write_line)
         ⊎ (LeavesReport command × (report : List ℕ) × Wrote command given (told [] []) (told (mem_sink_taken played.trace) []) report
         × SaysBehind (told [] []) (told (mem_sink_taken played.text) []) 0 (mem_sink_faults played.text) report write_line))) }
-    ensures stalled { IfOk result (λ played. played.status ≡ 6 → (given : List ℕ) × (writer : ℕ)
-        × Ask (map (λ word. word.now) words.now) Replay × IsGiven Replay (Some input.now) given
-        × HasStalled Replay given writer (told [] []) (told (mem_sink_taken played.trace) [])
+    ensures stalled { IfOk result (λ played. played.status ≡ 6 → (command : Command) × (given : List ℕ) × (writer : ℕ)
+        × Ask (map (λ word. word.now) words.now) command × IsGiven command (Some input.now) given
+        × HasStalled command given writer (told [] []) (told (mem_sink_taken played.trace) [])
         × Says (told [] []) (told (mem_sink_taken played.text) []) 0 (mem_sink_faults played.text) (stalled_line writer)) }
     ensures says_memory { IfOk result (λ played. played.status ≡ 1
         → Says (told [] []) (told (mem_sink_taken played.text) []) 0 (mem_sink_faults played.text) memory_line) }

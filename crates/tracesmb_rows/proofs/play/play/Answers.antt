@@ -23,4 +23,4 @@ returns-clause-part g c = λ five.
 pub returns-clause-stalled : goal.returns-clause-stalled
 returns-clause-stalled g c = λ six.
     let stalled = c.trace_top-status.ensures.stalled six in
-    (stalled.0, stalled.1, search (rules, stalled), search (rules, stalled), search (rules, stalled), search (rules, stalled))
+    (stalled.0, stalled.1, stalled.2, search (rules, stalled), search (rules, stalled), search (rules, stalled), search (rules, stalled))
