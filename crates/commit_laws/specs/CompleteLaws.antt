@@ -1,0 +1,40 @@
+-- Nothing of a stream of commits is absent where the bytes suffice.
+use Rattle.std.specs.Prelude.{◌≡◌, ℕ, ◌*◌, ◌≤◌, true, List, reverse}
+use Rattle.trace_base.specs.declared.policy.FullPolicy.{FullPolicy}
+use Rattle.trace_model.specs.Buffers.{Buffer, empty_buffer}
+use Rattle.trace_model.specs.Calls.{Call}
+use Rattle.trace_model.specs.Delivery.{records_of}
+use Rattle.trace_model.specs.History.{Event, delivered_to, records_after}
+use Rattle.trace_model.specs.Packets.{emissions_of, packets_of}
+use Rattle.trace_model.specs.Pages.{Page}
+use Rattle.trace_model.specs.Sequences.{Sequence, fresh, is_known, sequence_in}
+use Rattle.chunk_plain.specs.Setup.{Setup, sequence_of}
+use Rattle.world_model.specs.FirstBuffers.{BufferSpec, first_buffers}
+use Rattle.commit_laws.specs.Commits.{AreByCommits}
+use Rattle.commit_laws.specs.Complete.{IsReadOut, TellsAt, commits_to, kept_places, largest_record}
+use Rattle.commit_laws.specs.Streams.{IsBufferOf, IsStreamOf}
+use Rattle.commit_laws.specs.StreamLaws.{records_in}
+
+-- Of one buffer that takes commits alone, and has room for a largest record for each, and is read at the end: each emitted packet that has a chain
+-- without a drop mark is in a record, and there are no other records.
+abbrev pub EveryStreamIsComplete : Type 0
+EveryStreamIsComplete =
+    (size : ℕ) (calls : List Call) (pages : List Page) (room : ℕ) (policy : FullPolicy) (sequences : List Sequence)
+    (sequence record_size : ℕ) (events : List Event)
+    → is_known sequences sequence ≡ true → sequence_in sequences sequence ≡ fresh sequence record_size
+    → IsStreamOf size calls pages sequence (empty_buffer room policy sequences) events
+    → AreByCommits events → commits_to sequences events * largest_record sequences ≤ room
+    → IsReadOut sequence (empty_buffer room policy sequences) events
+    → TellsAt (emissions_of calls) sequence true 0 (kept_places 0 (reverse (packets_of calls)))
+    (records_in sequence (delivered_to sequence (empty_buffer room policy sequences) events))
+
+-- Of all buffers of a service that takes commits alone, of which that of the sequence's writer has the room and is read at the end.
+abbrev pub StreamsAreComplete : Type 0
+StreamsAreComplete =
+    (setup : Setup) (buffers : List BufferSpec) (place : ℕ) (buffer : Buffer) → IsBufferOf setup buffers place buffer
+    → (size : ℕ) (calls : List Call) (pages : List Page) (events : List Event)
+    → IsStreamOf size calls pages (sequence_of place) buffer events
+    → AreByCommits events → commits_to buffer.sequences events * largest_record buffer.sequences ≤ buffer.room
+    → IsReadOut (sequence_of place) buffer events
+    → TellsAt (emissions_of calls) (sequence_of place) true 0 (kept_places 0 (reverse (packets_of calls)))
+    (records_of (sequence_of place) (records_after (first_buffers setup 1 buffers) events))

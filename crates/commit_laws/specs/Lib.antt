@@ -1,0 +1,7 @@
+pub mod CommitHistories
+pub mod Commits
+pub mod Complete
+pub mod CompleteLaws
+pub mod StreamLaws
+pub mod Streams
+pub mod WorkedStreams
