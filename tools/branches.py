@@ -16,6 +16,11 @@ class Branch:
     line: int
     function: str
     way: str            # `holds` or `fails`; of a loop that is `goes round` or `ends`
+    text: str           # of its line
+
+    def told(self) -> tuple[str, str, str, str]:
+        """What names it where lines move."""
+        return self.module, self.function, self.text, self.way
 
     def __str__(self) -> str:
         return f'{self.module}:{self.line} in {self.function}: {self.way}'
@@ -29,15 +34,16 @@ class Fork:
     test: range
     first: range
     ways: tuple[str, ...]
+    text: str
 
 
-def forks_in(tree: ast.AST) -> Iterator[Fork]:
-    for function in ast.walk(tree):
+def forks_in(source: str) -> Iterator[Fork]:
+    for function in ast.walk(ast.parse(source)):
         if isinstance(function, ast.FunctionDef):
-            yield from forks_of(function)
+            yield from forks_of(function, source.splitlines())
 
 
-def forks_of(function: ast.FunctionDef) -> Iterator[Fork]:
+def forks_of(function: ast.FunctionDef, lines: list[str]) -> Iterator[Fork]:
     for node in ast.walk(function):
         if isinstance(node, (ast.If, ast.While)):
             is_endless = isinstance(node.test, ast.Constant)
@@ -48,11 +54,11 @@ def forks_of(function: ast.FunctionDef) -> Iterator[Fork]:
         else:
             continue
         first = node.body[0]
-        yield Fork(node.lineno, function.name, test, range(first.lineno, first.end_lineno + 1), ways)
+        yield Fork(node.lineno, function.name, test, range(first.lineno, first.end_lineno + 1), ways, lines[node.lineno - 1].strip())
 
 
 def branch_of(path: str, fork: Fork, way: str) -> Branch:
-    return Branch(os.path.basename(path), fork.line, fork.function, way)
+    return Branch(os.path.basename(path), fork.line, fork.function, way, fork.text)
 
 
 @cache
@@ -62,7 +68,7 @@ def forks_of_model() -> dict[str, dict[int, Fork]]:
     for name in sorted(os.listdir(MODEL)):
         if name.endswith('.py'):
             with open(os.path.join(MODEL, name)) as source:
-                forks = list(forks_in(ast.parse(source.read())))
+                forks = list(forks_in(source.read()))
             found[os.path.join(MODEL, name)] = {line: fork for fork in forks for line in fork.test}
     return found
 

@@ -11,6 +11,8 @@ standard output and standard error, byte for byte.
     broken    scenarios with something wrong        check           scenarios with their traces, some of them spoilt
     gen       small workloads                       words           words of every command, and others
     tune      turns of users, by the sums that any order has to keep
+    clone     scenarios whose lines make clones of buffers
+    stream    configuration texts and frames, some of them broken: only where it is named, since the program has no such command yet
     settled   `run` of scenarios whose outcome no thread decides
     run       `run` of any: that the trace tells of the scenario, by the second reading's `check`, that each line of the report adds up,
               and that it counts the trace's records; of a refused one the line
@@ -33,10 +35,10 @@ sys.path.insert(0, HERE)
 import random_inputs as inputs      # noqa: E402
 from model.answers import Answer    # noqa: E402
 from model.check import check       # noqa: E402
-from model.commands import answer_to    # noqa: E402
+from model.commands import TO_COME, answer_to   # noqa: E402
 from model.replay import replay     # noqa: E402
 from model.run import run           # noqa: E402
-from model.scenario import Refused, read_scenario   # noqa: E402
+from model.scenario import read_scenario    # noqa: E402
 from model.tracefile import BadTrace, read_trace    # noqa: E402
 
 MOST_SECONDS = 120
@@ -48,7 +50,7 @@ def made_replay(seed, tries):
 
 
 def made_broken(seed, tries):
-    return [random.Random(seed).choice(['replay', 'replay', 'replay', 'run', 'check'])], inputs.broken(seed, tries)
+    return [random.Random(seed).choice(['replay', 'replay', 'replay', 'run', 'check', 'clone'])], inputs.broken(seed, tries)
 
 
 def made_read(seed, _):
@@ -77,11 +79,19 @@ def made_gen(seed, _):
 def made_words(seed, _):
     chooser = random.Random(seed)
     odd = ['', '0', '1', '01', '-1', '+1', '64', '65', '100000', '100001', '18446744073709551615', '18446744073709551616', '1 ', '٣',
-           '1.0', '9' * 40, 'help', '--help', '-h', '--version', 'Replay', 'replay', 'run', 'read', 'check', 'gen', 'tune', '--']
-    words = [chooser.choice(['replay', 'run', 'read', 'check', 'gen', 'gen', 'gen', *odd])]
+           '1.0', '9' * 40, 'help', '--help', '-h', '--version', 'Replay', 'replay', 'run', 'read', 'check', 'gen', 'clone', 'tune', '--']
+    words = [chooser.choice(['replay', 'run', 'read', 'check', 'clone', 'gen', 'gen', 'gen', *odd])]
     count = chooser.choice([0, 0, 1, 3, 3, 3, 4]) if words != ['gen'] else chooser.choice([0, 2, 3, 3, 3, 3, 3, 4])
     words += [chooser.choice(odd if chooser.random() < .3 else ['0', '1', '2', '7']) for _ in range(count)]
     return words, b''
+
+
+def made_clone(seed, tries):
+    return [random.Random(seed).choice(['clone'] * 20 + ['replay', 'run', 'check'])], inputs.with_clones(seed, tries)
+
+
+def made_stream(seed, _):
+    return ['stream'], inputs.stream(seed)
 
 
 def made_settled(seed, tries):
@@ -98,7 +108,7 @@ def made_tune(seed, _):
 
 
 KINDS = {'replay': made_replay, 'broken': made_broken, 'read': made_read, 'damaged': made_damaged, 'check': made_check, 'gen': made_gen,
-         'words': made_words, 'settled': made_settled, 'run': made_run, 'tune': made_tune}
+         'words': made_words, 'clone': made_clone, 'stream': made_stream, 'settled': made_settled, 'run': made_run, 'tune': made_tune}
 
 
 def answer_of(program: list[str], words: list[str], data: bytes) -> Answer:
@@ -211,7 +221,7 @@ def main() -> int:
     parser = argparse.ArgumentParser(description=__doc__, formatter_class=argparse.RawDescriptionHelpFormatter)
     parser.add_argument('program')
     parser.add_argument('--seeds', type=seeds_in, default=seeds_in('0-99'), help='FIRST-LAST (0-99)')
-    parser.add_argument('--kinds', default=','.join(KINDS), help='some of ' + ','.join(KINDS))
+    parser.add_argument('--kinds', default=','.join(kind for kind in KINDS if kind not in TO_COME), help='some of ' + ','.join(KINDS))
     parser.add_argument('--keep', metavar='FOLDER', help='where what differs is kept')
     parser.add_argument('--without-tries', action='store_true', help='no writer has the policy stall:N')
     options = parser.parse_args()

@@ -4,14 +4,14 @@
 A wrong definition is shown by nothing else than a wrong number. This script plays random histories of buffers, random scenarios, and random
 scripts of one writer's calls, on a program that was written apart from these definitions, and says of each run in their words what it
 answered: each outcome, count, cause, place and byte of the trace, and that a writer's images are a cut of its packets. Of whole scenarios
-it says too that writers, service and trace are an account, and that the account is faithful and balanced. Each statement is proved by
-computing both sides. Wrong numbers, and runs that are spoilt in one place, are tried too, and must be refused. The script fails where a
-branch of the definitions wasn't taken by any history, a scenario of some kind wasn't among those that were played, or a way to spoil a run
-wasn't tried.
+it says too that writers, service and trace are an account, and that the account is faithful and balanced; and of replays and runs the
+schedule, what each act did, what was asked, noted and answered, the trace and the report. Each statement is proved by computing both sides.
+Wrong numbers, and runs that are spoilt in one place, are tried too, and must be refused. The script fails where a branch of the definitions
+wasn't taken by any history, a scenario of some kind wasn't among those that were played, or a way to spoil a run wasn't tried.
 
-How it runs: `compute_definitions.py` copies the crates with the definitions to a scratch folder, adds a crate `computed` with the generated
-files, some runs in each, and calls `rt check` there, file by file. Nothing of it is kept. `--mutate` changes one definition after another,
-in the ways that mutations.py lists, and wants each refused by some run.
+How it runs: `compute_definitions.py` copies the crates with the definitions to a scratch folder, or, for replays and runs, these definitions
+alone (slices.py), adds a crate `computed` with the generated files, some runs in each, and calls `rt check` there, file by file. Nothing of it
+is kept. `--mutate` changes one definition after another, in the ways that mutations.py lists, and wants each refused by some run.
 """
 
 import argparse
@@ -19,13 +19,17 @@ import os
 import shutil
 import sys
 import tempfile
-from collections import Counter
+from collections import Counter, namedtuple
 
 HERE = os.path.dirname(os.path.abspath(__file__))
 sys.path.insert(0, HERE)
 
-from scratch import make_scratch, put_words     # noqa: E402
+from scratch import make_scratch, make_slices, put_words    # noqa: E402
+from slices import flat     # noqa: E402
 from trial import all_refused, checked, is_as_wanted, passed_among     # noqa: E402
+
+# A kind of run: the title of its files, its module, how many are wanted, and the folder of the crate in which they are checked.
+Kind = namedtuple('Kind', 'title makers wanted crate')
 
 
 def main():
@@ -34,45 +38,66 @@ def main():
     parser.add_argument('--scripts', type=int, default=500, help='how many scripts of a writer (500)')
     parser.add_argument('--writers', type=int, default=100, help='how many writers of whole scenarios (100)')
     parser.add_argument('--scenarios', type=int, default=200, help='how many whole scenarios (200)')
+    parser.add_argument('--replays', type=int, default=40, help='how many replays at least (40)')
+    parser.add_argument('--runs', type=int, default=40, help='how many runs at least (40)')
     parser.add_argument('--first', type=int, default=0, help='the first seed (0)')
     parser.add_argument('--characters', type=int, default=60000, help='about the size of a generated file (60,000)')
     parser.add_argument('--keep', metavar='FOLDER', help='leave the scratch folder there')
     parser.add_argument('--spoilt', type=int, default=4, help='how many scripts for each way to spoil one (4)')
     parser.add_argument('--mutate', metavar='WORDS', nargs='?', const='',
-                        help='try wrong definitions, those whose names or kinds of run have these words')
+                        help='try wrong definitions: those of this kind of run, or those with these words in their names')
     options = parser.parse_args()
     scratch = options.keep or tempfile.mkdtemp(prefix='computed-')
     try:
-        crate = make_scratch(scratch, laws=options.mutate is None)
-        agreed = computed(crate, options) if options.mutate is None else mutated(scratch, crate, options)
+        kinds = kinds_of(options, scratch)
+        agreed = computed(kinds, options) if options.mutate is None else mutated(kinds, options)
         return 0 if agreed else 1
     finally:
         if not options.keep:
             shutil.rmtree(scratch, ignore_errors=True)
 
 
-def kinds_of(options):
-    """The kinds of run: by the name that mutations have for them, their title, their module, and how many are wanted."""
+def kinds_of(options, scratch):
+    """The kinds of run, by the name that mutations have for them."""
     import accounts
     import histories
+    import replays
+    import runs
     import worlds
     import writer_scripts
-    return {'histories': ('Histories', histories, options.histories), 'scripts': ('Scripts', writer_scripts, options.scripts),
-            'worlds': ('Worlds', worlds, options.writers), 'accounts': ('Scenarios', accounts, options.scenarios)}
+    kinds = {'histories': ('Histories', histories, options.histories), 'scripts': ('Scripts', writer_scripts, options.scripts),
+             'worlds': ('Worlds', worlds, options.writers), 'accounts': ('Scenarios', accounts, options.scenarios)}
+    crate = make_scratch(scratch, laws=options.mutate is None) if any(wanted for *_, wanted in kinds.values()) else None
+    found = {name: Kind(*kind, crate) for name, kind in kinds.items()}
+    for name, makers, wanted in (('replays', replays, options.replays), ('runs', runs, options.runs)):
+        folder, sliced = make_slices(os.path.join(scratch, name), makers) if wanted else (None, makers)
+        found[name] = Kind(name.capitalize(), sliced, wanted, folder)
+    return found
 
 
-def computed(crate, options):
+def of_sliced(options):
+    """What some of the replays and runs have."""
+    import replays
+    import runs
+    return {name: makers.KINDS for name, makers, wanted in (('replays', replays, options.replays), ('runs', runs, options.runs)) if wanted}
+
+
+def computed(kinds, options):
     """Whether all runs agree with the definitions, and take each branch of them."""
     import accounts
     import recorder
     import spoilt_accounts
     import writer_scripts
-    counts = Counter()
-    agreed = True
-    for title, makers, wanted in kinds_of(options).values():
-        put_words(crate, makers)
-        for file in files_of(title, makers, options, wanted, counts) if wanted else ():
-            agreed &= is_as_wanted(crate, *file)
+    counts, own = Counter(), {name: Counter() for name in of_sliced(options)}
+    agreed, crate = True, kinds['histories'].crate
+    for name, kind in kinds.items():
+        if kind.wanted:
+            put_words(kind.crate, kind.makers)
+            for file in files_of(kind, options, own.get(name, counts)):
+                agreed &= is_as_wanted(kind.crate, *file)
+    for name, wanted in of_sliced(options).items():
+        agreed &= none_lacks(name, wanted, own[name])
+        counts.update({f'{name}: {one}': count for one, count in own[name].items()})
     if options.scenarios:
         agreed &= none_lacks('scenarios', accounts.KINDS, counts)
         for file in spoilt_files(options, counts):
@@ -96,21 +121,19 @@ def none_lacks(kind, names, counts):
     return not lacking
 
 
-def mutated(scratch, crate, options):
+def mutated(kinds, options):
     """Whether each wrong definition is refused by some run, of those that are likeliest to tell first."""
     import mutations
-    kinds, groups = kinds_of(options), {}
-    for name, (title, makers, wanted) in kinds.items():
-        groups[name] = [file for file in files_of(title, makers, options, wanted, Counter()) if file[3]]
-    spoilt = list(spoilt_files(options, Counter()))
+    groups = {name: [file for file in files_of(kind, options, Counter()) if file[3]] if kind.wanted else [] for name, kind in kinds.items()}
+    spoilt = list(spoilt_files(options, Counter())) if options.scenarios else []
     agreed = True
-    for mutation in [one for one in mutations.ALL if options.mutate in ' '.join([one.name, *one.runs])]:
-        path = os.path.join(scratch, 'crates', mutation.crate, 'specs', mutation.file)
+    for mutation in [one for one in mutations.ALL if is_meant(one, kinds, options.mutate)]:
+        path = file_of(mutation, kinds)
         right = open(path).read()
         assert right.count(mutation.old) == 1, (mutation.name, right.count(mutation.old))
         with open(path, 'w') as out:
             out.write(right.replace(mutation.old, mutation.new))
-        by = refused_by(crate, kinds, groups, mutation, spoilt)
+        by = refused_by(kinds, groups, mutation, spoilt)
         with open(path, 'w') as out:
             out.write(right)
         print(f'{mutation.name}: {"refused by " + by if by else "NOT REFUSED"}', flush=True)
@@ -118,10 +141,25 @@ def mutated(scratch, crate, options):
     return agreed
 
 
-def refused_by(crate, kinds, groups, mutation, spoilt):
+def is_meant(mutation, kinds, words):
+    """It is of this kind, or has these words in its name; and there are runs to try it."""
+    is_named = words in mutation.runs if words in kinds else words in mutation.name
+    return is_named and any(kinds[name].wanted for name in mutation.runs)
+
+
+def file_of(mutation, kinds):
+    """The file with the definition that is changed: its crate's, or a slice of it."""
+    crate = next(kinds[name].crate for name in mutation.runs if kinds[name].wanted)
+    if mutation.runs[0] in ('replays', 'runs'):
+        return os.path.join(crate, 'specs', flat(f'Rattle.{mutation.crate}.specs.{mutation.file[:-len(".antt")]}') + '.antt')
+    return os.path.join(os.path.dirname(crate), mutation.crate, 'specs', mutation.file)
+
+
+def refused_by(kinds, groups, mutation, spoilt):
     """What refuses a wrong definition: runs that agreed with the right one, or spoilt runs that it takes."""
     for name in mutation.runs:
-        put_words(crate, kinds[name][1])
+        crate = kinds[name].crate
+        put_words(crate, kinds[name].makers)
         for file in groups[name]:
             proved, names, text = checked(crate, *file[1:3])
             if not proved:
@@ -148,15 +186,15 @@ def grouped(statements, characters):
         yield taken
 
 
-def files_of(title, makers, options, wanted, counts):
+def files_of(kind, options, counts):
     """The generated files: name, maker, statements, and whether they hold; the last one has a wrong number."""
-    small = None
+    small, makers = None, kind.makers
     size = options.characters * getattr(makers, 'TIMES_CHARACTERS', 1)
-    for number, group in enumerate(grouped(makers.statements(options.first, wanted, counts), size), 1):
+    for number, group in enumerate(grouped(makers.statements(options.first, kind.wanted, counts), size), 1):
         small = min([one for one in [small, *group] if one and one.wrong], key=lambda one: one.size(), default=None)
-        yield f'{title} {number}', makers, group, True
+        yield f'{kind.title} {number}', makers, group, True
     if small:
-        yield f'{title} with a wrong number', makers, [small.wrong], False
+        yield f'{kind.title} with a wrong number', makers, [small.wrong], False
 
 
 def spoilt_files(options, counts):

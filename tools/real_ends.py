@@ -61,6 +61,7 @@ def each_status(tries):
     tries.say('status 0: run', tries.run(['run'], hello)[:2], (0, trace))
     tries.say('status 0: read', tries.run(['read'], trace), (0, b'sequence 2 packets 2 marked 1 bytes 43\npackets 2 bytes 43\n', b''))
     tries.say('status 0: check', tries.run(['check'], hello + b'==\n' + trace), (0, b'agrees 2\n', b''))
+    tries.say('status 0: clone', tries.run(['clone'], hello + b'f 1\nc 1\nk 1\n')[:2], (0, trace))
     tries.say('status 0: gen', tries.run(['gen', '0', '1', '1'])[::2], (0, b''))
     tries.say('status 0: gen, its numbers in their order', tries.run(['gen', '0', '1', '2'])[1].count(b'\np '), 2)
     tries.say('status 0: tune, its numbers in their order', tries.run(['tune', '1', '2'])[1].splitlines()[:1], [b'user 1 claimed 1 none 0 retiled 1 refused 0'])
@@ -71,7 +72,8 @@ def each_status(tries):
     tries.say('status 3: read', tries.run(['read'], trace[:-1])[:2], (3, b''))
     tries.say('status 3: check', tries.run(['check'], hello)[::2], lambda found: found[0] == 3 and found[1].count(b'\n') == 1)
     tries.say('status 6: replay', tries.run(['replay'], STALL), (6, b'', b'stalled: writer 2\n'))
-    for command in ['replay', 'run', 'read', 'check']:
+    tries.say('status 6: clone', tries.run(['clone'], STALL), (6, b'', b'stalled: writer 2\n'))
+    for command in ['replay', 'run', 'read', 'check', 'clone']:
         tries.say(f'status 7: {command}', tries.run([command], b'\n' * (MOST + 1)), (7, b'', b'input too long\n'))
     tries.say('the most that may be read', tries.run(['replay'], b'\n' * MOST)[0], 0)
 

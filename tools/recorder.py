@@ -2,7 +2,7 @@
 branches of the definitions it takes."""
 
 from model import reading, service
-from model.buffers import BAD_CHUNK, DISCARDED, DUPLICATE, KEPT, REWRITTEN, TOO_FAR, TraceBuffer
+from model.buffers import BAD_CHUNK, DISCARDED, DUPLICATE, REWRITTEN, TOO_FAR, TraceBuffer
 from model.chunks import Unreadable, read_fragments
 from model.reading import CUT, INTO_LOST, MARKED, OPEN, Stop, delivers, row_of
 

@@ -3,6 +3,9 @@
 import os
 import re
 import shutil
+from types import SimpleNamespace
+
+from slices import Slices, flat
 
 TOP = os.path.dirname(os.path.dirname(os.path.abspath(__file__)))
 
@@ -48,6 +51,27 @@ def make_scratch(scratch, laws=True):
     put(crate, 'src/lib.rt', CODE)
     put(crate, 'specs/Lib.antt', 'pub mod Runs\npub mod Words\n')
     return crate
+
+
+def make_slices(scratch, makers):
+    """A scratch repository of one crate, `computed`, with the definitions that this kind of statement rests on; its folder, and the kind as it
+    names them there."""
+    crate = os.path.join(scratch, 'crates', 'computed')
+    shutil.rmtree(crate, ignore_errors=True)
+    slices = Slices()
+    texts = {name: getattr(makers, name) for name in ('WORDS', 'LEMMAS', 'HEAD', 'PROOF_HEAD')}
+    for text in texts.values():
+        slices.add_text(text)
+    put(scratch, 'crates.txt', 'computed:\n')
+    put(crate, 'src/lib.rt', CODE)
+    for path in slices.taken:
+        put(crate, f'specs/{flat(path)}.antt', slices.written(path))
+    put(crate, 'specs/Lib.antt', ''.join(f'pub mod {name}\n' for name in sorted({'Runs', 'Words', *map(flat, slices.taken)})))
+    texts = {name: slices.rewritten(text) for name, text in texts.items()}
+    hidden = sorted((flat(path), name) for path, names in slices.taken.items() for name in names if slices.is_hidden(path, name))
+    texts['PROOF_HEAD'] += ''.join(f'use Rattle.computed.specs.{module}.{{{name}}}\n' for module, name in hidden)
+    texts['UNFOLDING'] = f'unfolding {" ".join([*makers.HIDDEN, *(name for _, name in hidden)])}\n'
+    return crate, SimpleNamespace(statements=makers.statements, TIMES_CHARACTERS=makers.TIMES_CHARACTERS, **texts)
 
 
 def leave_definitions(target, name):

@@ -108,11 +108,11 @@ def most_chunks(payload, lengths):
 
 def is_enough(world):
     """Chunks and bytes are enough, so that no packet can be absent."""
-    scenario, loads = world.scenario, loads_of(world)
+    scenario, loads = world.scenario, list(loads_of(world))
     for number, producer in enumerate(scenario.producers, 1):
         own = [(spec, lengths) for spec, lengths in loads if spec.producer == number]
         chunks = sum(most_chunks(producer.payload(), lengths) for _, lengths in own)
-        if any(spec.policy != 'stall' for spec, _ in own) and chunks > producer.pages * producer.chunks:
+        if any(spec.policy != 'stall' or spec.tries for spec, _ in own) and chunks > producer.pages * producer.chunks:
             return False
     for number, buffer in enumerate(scenario.buffers, 1):
         payloads = [(scenario.producers[spec.producer - 1].payload(), lengths) for spec, lengths in loads if spec.buffer == number]

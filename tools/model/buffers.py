@@ -1,6 +1,7 @@
 """Reads FORMATS, "Arrival", and the counts of "Report": a buffer, its records, and what is lost where a new record comes."""
 
 from collections import deque
+from collections.abc import Callable
 from dataclasses import dataclass, field
 
 from model.chunks import Chunk, Fragment, Patch, Unreadable, read_fragments
@@ -43,6 +44,7 @@ class Sequence:
     dropped: int = 0
     lost: int = 0
     cut: int = 0
+    accepts: Callable[[bytes], bool] | None = None      # which packets are delivered, where not all are
 
     def has_arrived(self, chunk_id: int) -> bool:
         return chunk_id < self.least_missing or chunk_id in self.arrived

@@ -5,7 +5,7 @@ from collections import defaultdict
 from model.answers import Answer, refused
 from model.fields import Begin, End, Number
 from model.forms import OF_WRITERS
-from model.scenario import Line, Refused, Scenario, read_scenario
+from model.scenario import Line, Refused, Scenario, read_scenario, refuse_lines
 from model.service import sequence_of
 from model.tracefile import BadTrace, Record, read_trace
 from model.wire import CONTENT, MARK, four_bytes, number_field, record, tag, text_head
@@ -101,6 +101,7 @@ def check(data: bytes) -> Answer:
     text, trace = divided(data)
     try:
         scenario = read_scenario(text)
+        refuse_lines(scenario, {'k': 'not under check'})
         if trace is None:
             raise Refused(text.count(b'\n') + 1, 'no trace')
         return Answer(0, verdict_on(scenario, read_trace(trace)))

@@ -8,15 +8,18 @@ from typing import BinaryIO
 from model import answers
 from model.answers import Answer
 from model.check import check
+from model.clones import clone
 from model.limits import GENERATED_PACKETS, GENERATED_WRITERS, MOST_INPUT, MOST_NUMBER, TUNING_TURNS, TUNING_USERS
 from model.replay import replay
 from model.run import run
+from model.stream import stream
 from model.summary import read
 from model.tune import tune
 from model.workload import workload
 
-OF_INPUT: dict[str, Callable[[bytes], Answer]] = {'replay': replay, 'run': run, 'read': read, 'check': check}
-# To come: `stream` and `clone`, which read an input.
+OF_INPUT: dict[str, Callable[[bytes], Answer]] = {'replay': replay, 'run': run, 'read': read, 'check': check, 'clone': clone}
+# What the program is to have, and hasn't yet. These words are read here all the same; the usage line doesn't name them.
+TO_COME: dict[str, Callable[[bytes], Answer]] = {'stream': stream}
 NUMERAL = re.compile(r'0|[1-9][0-9]*', re.ASCII)
 
 
@@ -30,8 +33,8 @@ def numbers_in(words: list[str], ranges: tuple[range, ...]) -> list[int] | None:
 
 def command_of(words: list[str]) -> Callable[[BinaryIO], Answer] | None:
     """What the words spell, as what is done with standard input."""
-    if len(words) == 1 and words[0] in OF_INPUT:
-        return lambda source: on_input(OF_INPUT[words[0]], source)
+    if len(words) == 1 and words[0] in OF_INPUT | TO_COME:
+        return lambda source: on_input((OF_INPUT | TO_COME)[words[0]], source)
     if words[:1] == ['gen']:
         numbers = numbers_in(words[1:], (range(MOST_NUMBER + 1), GENERATED_WRITERS, GENERATED_PACKETS))
         return (lambda _: workload(*numbers)) if numbers else None

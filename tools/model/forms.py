@@ -17,6 +17,7 @@ FORMS = [(kind, re.compile(form.replace(b'N', NUMERAL))) for kind, form in (
     ('c', rb'c N'), ('s', rb's N'), ('x', rb'x N'),
     ('r', rb'r N'), ('r', rb'r N N'),
     ('q', rb'q'),
+    ('k', rb'k N'),
 )]
 
 SET_UP = ('buffer', 'producer', 'writer')

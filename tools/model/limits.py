@@ -14,6 +14,7 @@ REPETITIONS = range(1, 1_048_576 + 1)
 MOST_BUFFERS = 8
 MOST_PRODUCERS = 16
 MOST_WRITERS = 64
+MOST_CLONES = 4
 
 MOST_NESTED = 16                # messages inside one another
 MOST_PACKET = 1_048_576         # bytes of a packet's encoding

@@ -49,6 +49,9 @@ class Chain:
     def awaits(self) -> bool:
         return any(piece.awaits for piece in self.pieces)
 
+    def packet(self) -> bytes:
+        return b''.join(piece.bytes for piece in self.pieces)
+
 
 def pieces_of(sequence: Sequence, record: Record, passed: int) -> Iterator[Piece]:
     """The fragments of a record from this one on, but for one that awaits a patch in an open sequence."""
@@ -139,11 +142,12 @@ def read_sequence(sequence: Sequence, limit: int) -> list[bytes]:
         chain = chain_from(first, row)
         if chain.fate == OPEN:
             return records
+        if sequence.accepts and delivers(chain) and not sequence.accepts(chain.packet()):
+            chain.fate = CUT
         if delivers(chain):
             if len(records) == limit:
                 return records
-            body = b''.join(piece.bytes for piece in chain.pieces)
-            records.append(trace_record(body, sequence.number, sequence.missing or sequence.delivered == 0))
+            records.append(trace_record(chain.packet(), sequence.number, sequence.missing or sequence.delivered == 0))
             sequence.delivered = raised(sequence.delivered)
             sequence.missing = False
         else:

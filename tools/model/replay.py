@@ -2,7 +2,7 @@
 
 from model.answers import Answer, refused, stalled
 from model.report import report_of
-from model.scenario import Line, Refused, Scenario, read_scenario
+from model.scenario import Line, Refused, Scenario, read_scenario, refuse_lines
 from model.service import Service
 from model.writers import Stalled, Writer
 
@@ -59,6 +59,7 @@ def play(scenario: Scenario) -> Answer:
 def replay(text: bytes) -> Answer:
     try:
         scenario = read_scenario(text)
+        refuse_lines(scenario, {'k': 'not under replay'})
     except Refused as fault:
         return refused(fault)
     return play(scenario)

@@ -13,28 +13,33 @@ def buffer_line(number: int, buffer: TraceBuffer) -> str:
             f'overwritten {buffer.overwritten} discarded {buffer.discarded} unpatched {buffer.unpatched} padding {buffer.padding}\n')
 
 
-def counts_of(writer: Writer, buffer: TraceBuffer) -> dict[str, int]:
-    """What became of a writer's packets, each under its one cause."""
-    sequence = buffer.sequences[sequence_of(writer.number)]
-    counts = {
+def counts_read(number: int, buffer: TraceBuffer) -> dict[str, int]:
+    """What became of a sequence's packets, as far as reads and losses tell."""
+    sequence = buffer.sequences[number]
+    return {
         'delivered': sequence.delivered,
-        'dropped': raised(sequence.dropped, writer.dropped_at_begin),
+        'dropped': sequence.dropped,
         'overwritten': sequence.lost if buffer.policy == 'ring' else 0,
         'discarded': sequence.lost if buffer.policy == 'discard' else 0,
         'cut': sequence.cut,
     }
+
+
+def counts_of(writer: Writer, buffer: TraceBuffer) -> dict[str, int]:
+    """What became of a writer's packets, each under its one cause."""
+    counts = counts_read(sequence_of(writer.number), buffer)
+    counts['dropped'] = raised(counts['dropped'], writer.dropped_at_begin)
     counts['cut'] += max(0, writer.begun - sum(counts.values()))
     return counts
 
 
-def sequence_line(writer: Writer, buffer: TraceBuffer) -> str:
-    counts = counts_of(writer, buffer)
+def sequence_line(number: int, begun: int, counts: dict[str, int]) -> str:
     words = ' '.join(f'{word} {counts[word]}' for word in SEQUENCE_WORDS)
-    return f'sequence {sequence_of(writer.number)} begun {writer.begun} {words}\n'
+    return f'sequence {number} begun {begun} {words}\n'
 
 
 def report_of(service: Service) -> bytes:
     lines = [buffer_line(number, buffer) for number, buffer in enumerate(service.buffers, 1)]
-    lines += [sequence_line(writer, service.buffer_of(writer)) for writer in service.writers]
+    lines += [sequence_line(sequence_of(writer.number), writer.begun, counts_of(writer, service.buffer_of(writer))) for writer in service.writers]
     lines += [f'flush {number} chunks {service.chunks_of(request)}\n' for number, request in enumerate(service.requests, 1)]
     return ''.join(lines).encode()

@@ -9,11 +9,11 @@ import random
 from model.answers import Answer, refused
 from model.replay import is_of_service, play_of_service, play_of_writer
 from model.report import report_of
-from model.scenario import Line, Refused, Scenario, read_scenario
+from model.scenario import Line, Refused, Scenario, read_scenario, refuse_lines
 from model.service import Service
 from model.writers import Writer
 
-NOT_PLAYED = {'x': 'not under run'}
+NOT_PLAYED = {'x': 'not under run', 'k': 'not under run'}
 SERVICE = 0                 # the service's job; a writer's has its number
 
 
@@ -89,9 +89,7 @@ def play(scenario: Scenario, order: int) -> Answer:
 def run(text: bytes, order: int = 0) -> Answer:
     try:
         scenario = read_scenario(text)
+        refuse_lines(scenario, NOT_PLAYED)
     except Refused as fault:
         return refused(fault)
-    for line in scenario.lines:
-        if line.kind in NOT_PLAYED:
-            return refused(Refused(line.number, NOT_PLAYED[line.kind]))
     return play(scenario, order)

@@ -104,7 +104,8 @@ def is_late(scenario: Scenario, form: Form) -> bool:
 
 def is_too_many(scenario: Scenario, form: Form) -> bool:
     return {'buffer': len(scenario.buffers) >= limits.MOST_BUFFERS, 'producer': len(scenario.producers) >= limits.MOST_PRODUCERS,
-            'writer': len(scenario.writers) >= limits.MOST_WRITERS}.get(form.kind, False)
+            'writer': len(scenario.writers) >= limits.MOST_WRITERS,
+            'k': sum(line.kind == 'k' for line in scenario.lines) >= limits.MOST_CLONES}.get(form.kind, False)
 
 
 def lacks_producer(scenario: Scenario, form: Form) -> bool:
@@ -112,8 +113,8 @@ def lacks_producer(scenario: Scenario, form: Form) -> bool:
 
 
 def lacks_buffer(scenario: Scenario, form: Form) -> bool:
-    number = form.numbers[1] if form.kind == 'writer' else form.numbers[0] if form.kind == 'r' else 1
-    return form.kind in ('writer', 'r') and not 1 <= number <= len(scenario.buffers)
+    number = form.numbers[1] if form.kind == 'writer' else form.numbers[0] if form.kind in ('r', 'k') else 1
+    return form.kind in ('writer', 'r', 'k') and not 1 <= number <= len(scenario.buffers)
 
 
 def lacks_writer(scenario: Scenario, form: Form) -> bool:
@@ -209,6 +210,13 @@ def add_line(scenario: Scenario, form: Form, line: int, parts: tuple) -> None:
         del scenario.packets[of]
     elif form.kind == 'x':
         scenario.closed.add(of)
+
+
+def refuse_lines(scenario: Scenario, reasons: dict[str, str]) -> None:
+    """The first line of a kind that isn't for a command is a fault."""
+    for line in scenario.lines:
+        if line.kind in reasons:
+            raise Refused(line.number, reasons[line.kind])
 
 
 def read_line(scenario: Scenario, number: int, line: bytes) -> None:
