@@ -1,4 +1,5 @@
 pub mod Choices
 pub mod DecimalLemmas
+pub mod IdLemmas
 pub mod Lists
 pub mod NumeralLemmas

@@ -40,7 +40,7 @@ pub const MAX_FRAGMENTS: u16 = 1023;
 /// Nested lengths of one writer whose messages go on.
 pub const MAX_OPEN_HOLES: usize = 16;
 
-/// A chunk id is too far ahead where it is at least this many above the least missing one.
+/// A position is too far ahead where it is at least this many above the least missing one.
 pub const IDS_AHEAD: u32 = 1024;
 
 /// Bytes of one input.

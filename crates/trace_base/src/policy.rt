@@ -26,4 +26,6 @@ pub struct WriterSpec {
     pub producer: u16,
     pub buffer: u8,
     pub policy: WriterPolicy,
+    /// The id of its first chunk.
+    pub from: u32,
 }
