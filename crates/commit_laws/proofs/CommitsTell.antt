@@ -9,7 +9,7 @@ use Rattle.trace_model.specs.History.{Event, Read, buffer_after, delivered_at, d
 use Rattle.trace_model.specs.Images.{Patch}
 use Rattle.trace_model.specs.Reads.{Delivery, count_of, delivered_by, delivered_of, delivers, is_marked, left_by, missing_after, passed_by, sequence_after, turn_of, with_read}
 use Rattle.trace_model.specs.Row.{Link, horizon, row_from_cursor, slots_of}
-use Rattle.trace_model.specs.Sequences.{Cursor, Sequence, fresh, is_known, sequence_in}
+use Rattle.trace_model.specs.Sequences.{Cursor, Sequence, IsFresh, is_known, sequence_in}
 use Rattle.model_laws.proofs.PlaceCounts.{count-cons}
 use Rattle.delivery_laws.specs.Histories.{AreTold}
 use Rattle.delivery_laws.specs.Sheets.{Part, Sheet, SheetsAgree, all_parts, packets_in}
@@ -174,7 +174,7 @@ module _ (sheets : List Sheet) (agree : SheetsAgree false sheets) (q : ℕ) wher
 -- At the start of a history
 
 pub fresh_met : (sheets : List Sheet) (q record_size room : ℕ) (policy : FullPolicy) (sequences : List Sequence) (later : List Patch) → is_known sequences q ≡ true
-    → sequence_in sequences q ≡ fresh q record_size → IsMet sheets q [] false later (empty_buffer room policy sequences)
+    → IsFresh q record_size (sequence_in sequences q) → IsMet sheets q [] false later (empty_buffer room policy sequences)
 fresh_met sheets q record_size room policy sequences later known start = record {
   known = known;
   arrived = ap (λ (s : Sequence). s.arrived) start;

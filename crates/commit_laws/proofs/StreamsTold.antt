@@ -13,7 +13,7 @@ use Rattle.trace_model.specs.Images.{Image, Patch}
 use Rattle.trace_model.specs.Packets.{emissions_of, packets_of}
 use Rattle.trace_model.specs.Pages.{Page, image_of, images_from}
 use Rattle.trace_model.specs.Sent.{is_placed}
-use Rattle.trace_model.specs.Sequences.{Sequence, fresh, is_known, sequence_in}
+use Rattle.trace_model.specs.Sequences.{Sequence, IsFresh, is_known, sequence_in}
 use Rattle.trace_model.specs.Tells.{Tells}
 use Rattle.trace_model.proofs.PageLemmas.{images_long}
 use Rattle.delivery_laws.specs.Sheets.{all_parts, packets_in}
@@ -119,7 +119,7 @@ pub record IsOwn (setup : Setup) (buffers : List BufferSpec) (q : ℕ) (buffer :
   pub size : ℕ
   pub is : buffer ≡ empty_buffer room policy sequences
   pub known : is_known sequences q ≡ true
-  pub start : sequence_in sequences q ≡ fresh q size
+  pub start : IsFresh q size (sequence_in sequences q)
   pub once : Once q (empty_buffer room policy sequences) (first_buffers setup 1 buffers)
 
 pub own_buffer : (setup : Setup) (buffers : List BufferSpec) (place : ℕ) (buffer : Buffer) → IsBufferOf setup buffers place buffer → IsOwn setup buffers (place + 2) buffer
@@ -128,7 +128,7 @@ own_buffer setup buffers place buffer of = by_one (in_one setup place of.spec of
     knows : is_known buffer.sequences (place + 2) ≡ true
     knows = named_knows setup place of.spec of.writer 1 buffers (of.spec.buffer - 1) buffer of.there (let least = of.counted in omega (arith, least))
 
-    by_one : IsOnce (place + 2) (record_size (size_of setup of.spec.producer)) (first_buffers setup 1 buffers) ⊎ Without (place + 2) (first_buffers setup 1 buffers) → IsOwn setup buffers (place + 2) buffer
+    by_one : IsOnce (place + 2) (record_size (size_of setup of.spec.producer)) of.spec.from (first_buffers setup 1 buffers) ⊎ Without (place + 2) (first_buffers setup 1 buffers) → IsOwn setup buffers (place + 2) buffer
     by_one (inr none) = absurd (without_is (place + 2) (first_buffers setup 1 buffers) none (of.spec.buffer - 1) buffer of.there knows)
     by_one (inl one) = record {
       room = one.room;

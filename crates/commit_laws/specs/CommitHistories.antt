@@ -5,7 +5,7 @@ use Rattle.trace_model.specs.Buffers.{empty_buffer}
 use Rattle.trace_model.specs.History.{Event, Arrives, ArrivesInPart, Patched, Committed, Closed, Read, delivered_to}
 use Rattle.trace_model.specs.Images.{Image, Fragment, Patch, whole_chunk}
 use Rattle.trace_model.specs.Reading.{Fragments, reading_of}
-use Rattle.trace_model.specs.Sequences.{Sequence, fresh, is_among, is_known, sequence_in, with_number}
+use Rattle.trace_model.specs.Sequences.{Sequence, IsFresh, is_among, is_known, sequence_in, with_number}
 use Rattle.delivery_laws.specs.Histories.{AreTold, IsComplete}
 use Rattle.delivery_laws.specs.Sheets.{Sheet, SheetsAgree, all_parts, packets_in}
 use Rattle.commit_laws.specs.Commits.{NoneIsRefused, commits_in, patches_brought}
@@ -14,7 +14,7 @@ use Rattle.commit_laws.specs.Commits.{NoneIsRefused, commits_in, patches_brought
 abbrev pub patches_to : ℕ → List Event → List Patch
 patches_to sequence events = patches_brought (commits_in sequence events)
 
--- The image is the writer's chunk of its id, which is complete, while these patches are still to come.
+-- The image is the writer's chunk at its position, which is complete, while these patches are still to come.
 pub record IsImageOf (sheets : List Sheet) (later : List Patch) (image : Image) : Type 0 where
   pub fragments : List Fragment
   pub reads : reading_of image.count image.payload ≡ Fragments fragments
@@ -48,7 +48,7 @@ AreCommitted sheets sequence came closed (Read other limit ∷ events) = AreComm
 abbrev pub EveryCommitHistoryTells : Type 0
 EveryCommitHistoryTells =
     (sheets : List Sheet) (sequence record_size room : ℕ) (policy : FullPolicy) (sequences : List Sequence) (events : List Event)
-    → SheetsAgree false sheets → is_known sequences sequence ≡ true → sequence_in sequences sequence ≡ fresh sequence record_size
+    → SheetsAgree false sheets → is_known sequences sequence ≡ true → IsFresh sequence record_size (sequence_in sequences sequence)
     → AreCommitted sheets sequence [] false events
     → NoneIsRefused sequence (empty_buffer room policy sequences) events
     → AreTold (packets_in (all_parts sheets)) true 0 (delivered_to sequence (empty_buffer room policy sequences) events)

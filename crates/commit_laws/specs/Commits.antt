@@ -25,7 +25,7 @@ commits_in sequence (Committed image patches ∷ events) =
     else commits_in sequence events
 commits_in sequence (event ∷ events) = commits_in sequence events
 
--- the commits that bring these pages of a writer, each with the patches of its body; the first one has this chunk id
+-- the commits that bring these pages of a writer, each with the patches of its body; the first one has this position
 abbrev pub page_commits : (sequence chunk_id : ℕ) → List Page → List Commit
 page_commits sequence chunk_id [] = []
 page_commits sequence chunk_id (page ∷ pages) =
@@ -49,7 +49,7 @@ ComesByCommits sequence closed (Committed image patches ∷ events) =
 ComesByCommits sequence closed (Closed other ∷ events) = ComesByCommits sequence (closed || (other == sequence)) events
 ComesByCommits sequence closed (Read other limit ∷ events) = ComesByCommits sequence closed events
 
--- the outcomes that refuse an image: its id had come, or is too far ahead of those that came, or its payload can't be read
+-- the outcomes that refuse an image: its position had come, or is too far ahead of those that came, or its payload can't be read
 abbrev pub refuses : Arrived → Bool
 refuses Duplicate = true
 refuses TooFar = true
@@ -64,7 +64,7 @@ NoneIsRefused sequence buffer (Committed image patches ∷ events) =
     × NoneIsRefused sequence (buffer_after buffer (Committed image patches)) events
 NoneIsRefused sequence buffer (event ∷ events) = NoneIsRefused sequence (buffer_after buffer event) events
 
--- Each patch comes behind the image that it names, or with it, where these ids came before.
+-- Each patch comes behind the image that it names, or with it, where these positions came before.
 abbrev pub PatchesComeBehind : List ℕ → List Commit → Type 0
 PatchesComeBehind came [] = ⊤
 PatchesComeBehind came (commit ∷ commits) =

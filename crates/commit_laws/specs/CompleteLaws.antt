@@ -7,7 +7,7 @@ use Rattle.trace_model.specs.Delivery.{records_of}
 use Rattle.trace_model.specs.History.{Event, delivered_to, records_after}
 use Rattle.trace_model.specs.Packets.{emissions_of, packets_of}
 use Rattle.trace_model.specs.Pages.{Page}
-use Rattle.trace_model.specs.Sequences.{Sequence, fresh, is_known, sequence_in}
+use Rattle.trace_model.specs.Sequences.{Sequence, IsFresh, is_known, sequence_in}
 use Rattle.chunk_plain.specs.Setup.{Setup, sequence_of}
 use Rattle.world_model.specs.FirstBuffers.{BufferSpec, first_buffers}
 use Rattle.commit_laws.specs.Commits.{AreByCommits}
@@ -21,7 +21,7 @@ abbrev pub EveryStreamIsComplete : Type 0
 EveryStreamIsComplete =
     (size : ℕ) (calls : List Call) (pages : List Page) (room : ℕ) (policy : FullPolicy) (sequences : List Sequence)
     (sequence record_size : ℕ) (events : List Event)
-    → is_known sequences sequence ≡ true → sequence_in sequences sequence ≡ fresh sequence record_size
+    → is_known sequences sequence ≡ true → IsFresh sequence record_size (sequence_in sequences sequence)
     → IsStreamOf size calls pages sequence (empty_buffer room policy sequences) events
     → AreByCommits events → commits_to sequences events * largest_record sequences ≤ room
     → IsReadOut sequence (empty_buffer room policy sequences) events

@@ -9,7 +9,7 @@ use Rattle.trace_model.specs.Packets.{emissions_of}
 use Rattle.trace_model.specs.Pages.{Page}
 use Rattle.trace_model.specs.Reads.{Delivery}
 use Rattle.trace_model.specs.Record.{record_of}
-use Rattle.trace_model.specs.Sequences.{Sequence, fresh, is_known, sequence_in}
+use Rattle.trace_model.specs.Sequences.{Sequence, IsFresh, is_known, sequence_in}
 use Rattle.trace_model.specs.Tells.{Tells}
 use Rattle.chunk_plain.specs.Setup.{Setup, sequence_of}
 use Rattle.chunk_plain.specs.Views.{WriterView}
@@ -27,7 +27,7 @@ abbrev pub EveryStreamIsTold : Type 0
 EveryStreamIsTold =
     (size : ℕ) (calls : List Call) (pages : List Page) (room : ℕ) (policy : FullPolicy) (sequences : List Sequence)
     (sequence record_size : ℕ) (events : List Event)
-    → is_known sequences sequence ≡ true → sequence_in sequences sequence ≡ fresh sequence record_size
+    → is_known sequences sequence ≡ true → IsFresh sequence record_size (sequence_in sequences sequence)
     → IsStreamOf size calls pages sequence (empty_buffer room policy sequences) events
     → Tells (emissions_of calls) sequence (records_in sequence (delivered_to sequence (empty_buffer room policy sequences) events))
 

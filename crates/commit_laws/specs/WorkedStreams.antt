@@ -35,7 +35,7 @@ second_first pages = []
 
 -- so many bytes for two sequences of which nothing has come
 abbrev pub ring_with : ℕ → ℕ → Buffer
-ring_with room size = empty_buffer room Ring (fresh 2 size ∷ fresh 3 size ∷ [])
+ring_with room size = empty_buffer room Ring (fresh 2 size 0 ∷ fresh 3 size 0 ∷ [])
 
 -- the commits, and then the closes
 abbrev pub closed_behind : List Event → List Event

@@ -6,7 +6,7 @@ use Rattle.trace_model.specs.Counts.{raised}
 use Rattle.trace_base.specs.declared.policy.FullPolicy.{FullPolicy}
 use Rattle.trace_model.specs.Images.{Chunk, Fragment, Patch}
 use Rattle.trace_model.specs.Fading.{ShowFragments}
-use Rattle.trace_model.specs.Sequences.{Sequence, Cursor, fresh, sequence_in, is_known, is_among}
+use Rattle.trace_model.specs.Sequences.{Sequence, Cursor, IsFresh, sequence_in, is_known, is_among}
 use Rattle.trace_model.specs.Buffers.{Buffer, empty_buffer}
 use Rattle.trace_model.specs.Arrivals.{with_arrival, with_partial_arrival}
 use Rattle.trace_model.specs.Patches.{with_patches, with_close}
@@ -369,7 +369,7 @@ module _ (sheets : List Sheet) (agree : SheetsAgree false sheets) (q : ℕ) wher
 
 -- at the start of a history
 pub fresh_known : (sheets : List Sheet) (q record_size room : ℕ) (policy : FullPolicy) (sequences : List Sequence) (later : List Patch) → is_known sequences q ≡ true
-    → sequence_in sequences q ≡ fresh q record_size → IsKnown sheets q 0 false later (empty_buffer room policy sequences)
+    → IsFresh q record_size (sequence_in sequences q) → IsKnown sheets q 0 false later (empty_buffer room policy sequences)
 fresh_known sheets q record_size room policy sequences later known start = record {
   known = known;
   arrived = ap (λ (s : Sequence). s.arrived) start;

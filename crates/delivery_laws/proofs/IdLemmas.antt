@@ -1,4 +1,4 @@
--- The ids of chunks that came in order, from 0 on.
+-- The positions of chunks that came in order, from 0 on.
 use Rattle.std.proofs.Common.{◌≡◌, ◌∙◌, ℕ, zero, suc, ◌+◌, ◌<◌, ◌≤◌, ◌⊎◌, max, Bool, true, false, ◌||◌, List, [], ◌∷◌, ◌++◌, length, refl, ap, arith, inl, inr, length-append}
 use Rattle.std.specs.Prelude.{cond, ◌==◌, nat_lt}
 use Rattle.std.proofs.lemmas.Bool.{eq-eqb, ne_eqb, cases_eq, ltb-true, or_left, or_right, or_from}
@@ -80,7 +80,7 @@ put_last n (m ∷ numbers) h =
         ap (λ (b : Bool). cond b (m ∷ numbers) (m ∷ with_number n numbers)) (ne_eqb n m (λ f. omega (arith, f, h.0)))
         ∙ ap (λ (ns : List ℕ). m ∷ ns) rest
 
--- the next id is put in
+-- the next position is put in
 pub put_next : (n : ℕ) → with_number n (upto n) ≡ upto (suc n)
 put_next n = put_last n (upto n) (below_upto n)
 

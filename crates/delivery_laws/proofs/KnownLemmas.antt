@@ -111,7 +111,7 @@ found_at q P chunk_id (t ∷ rs) r each found = step (is_of q chunk_id t) refl f
         subst (IsFound P chunk_id) same (record { holds = each.0 parts.0; same = eqb-true t.chunk_id chunk_id parts.1 })
     step false e f k = k f
 
--- of a list of ids that arrived, the least that isn't there
+-- of a list of positions that arrived, the least that isn't there
 abbrev least_of : List ℕ → ℕ
 least_of arrived = first_absent (length arrived) 0 arrived
 
@@ -138,7 +138,7 @@ module _ (sheets : List Sheet) (q come : ℕ) (closed : Bool) (later : List Patc
   pub arrived_is : (i : ℕ) → has_arrived (sequence_in b.sequences q) i ≡ is_among i (upto come)
   arrived_is i = ap (is_among i) known.arrived
 
-  -- an id of which nothing is known
+  -- a position of which nothing is known
   pub unknown_open : (i : ℕ) → i < horizon (sequence_in b.sequences q)
       → (has_arrived (sequence_in b.sequences q) i || is_among i (sequence_in b.sequences q).final) ≡ false → (sequence_in b.sequences q).closed ≡ false
   unknown_open i low unknown = by_close (sequence_in b.sequences q).closed refl low

@@ -147,7 +147,7 @@ module _ (sheets : List Sheet) (q come : ℕ) (closed : Bool) where
 -- A close
 
 module _ (sheets : List Sheet) (q come : ℕ) (later : List Patch) where
-  -- the ids of partial records are all the next one's
+  -- the positions of partial records are all the next one's
   final_ids : (n : ℕ) → n ≡ q → (rs : List BufferRecord) → EachOf q (IsGood sheets come later) rs → (i : ℕ)
       → is_among i (map (λ (stored : BufferRecord). stored.chunk_id) (filter (λ stored. (stored.sequence == n) && stored.chunk.partial) rs)) ≡ true
       → (i ≡ come) × HasSheet sheets i

@@ -6,7 +6,7 @@ use Rattle.trace_model.specs.Counts.{last_count}
 use Rattle.trace_model.specs.Packets.{packets_of, emissions_of, begun_count, AreCalls}
 use Rattle.trace_model.specs.Pages.{Page}
 use Rattle.trace_model.specs.Cut.{CutsInto, newest_goes_on}
-use Rattle.trace_model.specs.Sequences.{Sequence, fresh, sequence_in, is_known}
+use Rattle.trace_model.specs.Sequences.{Sequence, IsFresh, sequence_in, is_known}
 use Rattle.trace_model.specs.Buffers.{empty_buffer}
 use Rattle.trace_model.specs.History.{Event, delivered_to}
 use Rattle.trace_model.specs.Reads.{Delivery}
@@ -23,7 +23,7 @@ use Rattle.delivery_laws.specs.WriterSheets.{sheets_of}
 abbrev pub EveryHistoryTells : Type 0
 EveryHistoryTells =
     (sheets : List Sheet) (sequence record_size room : ℕ) (policy : FullPolicy) (sequences : List Sequence) (events : List Event)
-    → SheetsAgree false sheets → is_known sequences sequence ≡ true → sequence_in sequences sequence ≡ fresh sequence record_size
+    → SheetsAgree false sheets → is_known sequences sequence ≡ true → IsFresh sequence record_size (sequence_in sequences sequence)
     → Legal sheets sequence 0 false (sheet_patches sheets) events
     → AreTold (packets_in (all_parts sheets)) true 0 (delivered_to sequence (empty_buffer room policy sequences) events)
 
@@ -34,7 +34,7 @@ pub record IsAccountOf (size : ℕ) (calls : List Call) (pages : List Page) (seq
   pub possible : AreCalls calls
   pub cut : CutsInto size (packets_of calls) pages
   pub known : is_known sequences sequence ≡ true
-  pub start : sequence_in sequences sequence ≡ fresh sequence record_size
+  pub start : IsFresh sequence record_size (sequence_in sequences sequence)
   pub order : InOrder (sheets_of (newest_goes_on (packets_of calls)) pages) sequence 0 false [] events
 
 -- The records of the sequence tell of the packets that its writer emitted.

@@ -23,7 +23,7 @@ Completes (patch ∷ later) chunk_id awaits fragments written =
     × Completes later chunk_id (not patch.last) (patched_last patch fragments) written)
     (Completes later chunk_id awaits fragments written)
 
--- the chunk with this id, complete, while these patches are still to come
+-- the chunk at this position, complete, while these patches are still to come
 pub record IsComplete (sheets : List Sheet) (later : List Patch) (chunk_id : ℕ) (chunk : Chunk) : Type 0 where
   pub sheet : Sheet
   pub there : slice_get sheets chunk_id ≡ Some sheet
@@ -31,7 +31,7 @@ pub record IsComplete (sheets : List Sheet) (later : List Patch) (chunk_id : ℕ
   pub completes : Completes later chunk_id chunk.awaits chunk.fragments sheet.written
   pub some : 0 < length chunk.fragments
 
--- Some fragments of the chunk with this id, and never all: these are the first ones, as they were written. So a scrape takes
+-- Some fragments of the chunk at this position, and never all: these are the first ones, as they were written. So a scrape takes
 -- them while the writer holds the chunk.
 pub record IsPart (sheets : List Sheet) (chunk_id : ℕ) (chunk : Chunk) : Type 0 where
   pub sheet : Sheet

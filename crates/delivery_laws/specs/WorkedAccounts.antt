@@ -25,7 +25,7 @@ scraped_events = scraped given_up_pages ++ taken 2 0 given_up_pages ++ ended
 
 -- two sequences of which nothing has come
 abbrev pub two_sequences : List Sequence
-two_sequences = fresh 2 2064 ∷ fresh 3 2064 ∷ []
+two_sequences = fresh 2 2064 0 ∷ fresh 3 2064 0 ∷ []
 
 -- an account that meets what the delivery law asks, and what is delivered of it
 pub record WorkedAccount : Type 0 where
@@ -38,7 +38,7 @@ pub record WorkedAccount : Type 0 where
 -- An account that comes to an end, with a buffer of just the bytes that it asks for: a packet in two chunks, of which the first
 -- awaits a patch.
 abbrev pub small_sequences : List Sequence
-small_sequences = fresh 2 304 ∷ fresh 3 304 ∷ []
+small_sequences = fresh 2 304 0 ∷ fresh 3 304 0 ∷ []
 
 -- both pages are taken, and then the end
 abbrev pub finished_events : List Event

@@ -5,7 +5,7 @@ use Rattle.trace_model.specs.Pages.{Page, chunk_of, patches_of}
 use Rattle.trace_model.specs.Written.{settled_fragments}
 use Rattle.delivery_laws.specs.Sheets.{Sheet}
 
--- the page with this chunk id, which runs on or not, once these patches are put in
+-- the page at this position, which runs on or not, once these patches are put in
 abbrev pub sheet_of : List Patch → ℕ → Bool → Page → Sheet
 sheet_of patches chunk_id runs_on page = record {
   chunk = record (chunk_of page) { runs_on = runs_on };
@@ -13,7 +13,7 @@ sheet_of patches chunk_id runs_on page = record {
   written = settled_fragments patches chunk_id (chunk_of page).fragments;
 }
 
--- Pages from this chunk id on. Whether the last one runs on is given: a page whose chunk is still held has no flag 2 yet,
+-- Pages from this position on. Whether the last one runs on is given: a page whose chunk is still held has no flag 2 yet,
 -- while the newest packet goes on behind it.
 abbrev pub sheets_from : List Patch → ℕ → Bool → List Page → List Sheet
 sheets_from patches chunk_id goes_on [] = []

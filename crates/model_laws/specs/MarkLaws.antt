@@ -3,7 +3,7 @@
 -- was passed that wasn't delivered: a packet with its start or without it, or a gap.
 use Rattle.std.specs.Prelude.{◌≡◌, ℕ, ◌==◌, Bool, true, false, not, List, [], ◌∷◌, ◌++◌, length, Some, slice_get, if◌then◌else◌}
 use Rattle.trace_base.specs.declared.policy.FullPolicy.{FullPolicy}
-use Rattle.trace_model.specs.Sequences.{Sequence, fresh, sequence_in, is_known}
+use Rattle.trace_model.specs.Sequences.{Sequence, IsFresh, sequence_in, is_known}
 use Rattle.trace_model.specs.Buffers.{Buffer, empty_buffer}
 use Rattle.trace_model.specs.Row.{Link, row_from_cursor}
 use Rattle.trace_model.specs.Reads.{Delivery, turn_of, delivers, count_of, passed_by, link_bytes}
@@ -38,6 +38,6 @@ pub record AreMarkedDeliveries (links : List Link) (delivered : List Delivery) :
 abbrev pub MarksTellWhatIsMissing : Type 0
 MarksTellWhatIsMissing =
     (room : ℕ) (policy : FullPolicy) (sequences : List Sequence) (sequence size : ℕ) (events : List Event)
-    → is_known sequences sequence ≡ true → sequence_in sequences sequence ≡ fresh sequence size
+    → is_known sequences sequence ≡ true → IsFresh sequence size (sequence_in sequences sequence)
     → AreMarkedDeliveries (links_passed sequence (empty_buffer room policy sequences) events)
     (delivered_to sequence (empty_buffer room policy sequences) events)

@@ -7,7 +7,7 @@ use Rattle.trace_model.specs.Packets.{packets_of, begun_count}
 use Rattle.trace_model.specs.Pages.{Page}
 use Rattle.trace_model.specs.Cut.{CutsInto}
 use Rattle.trace_model.specs.Written.{chains_of}
-use Rattle.trace_model.specs.Sequences.{Sequence, fresh, sequence_in, is_known}
+use Rattle.trace_model.specs.Sequences.{Sequence, IsFresh, sequence_in, is_known}
 use Rattle.trace_model.specs.Buffers.{empty_buffer}
 use Rattle.trace_model.specs.Reads.{Delivery}
 use Rattle.trace_model.specs.History.{Event, state_after, delivered_to}
@@ -33,7 +33,7 @@ pub record CountsDeliveries (fixed : List Fixed) (delivered : List Delivery) (st
 abbrev pub DeliveriesAreCounted : Type 0
 DeliveriesAreCounted =
     (room : ℕ) (policy : FullPolicy) (sequences : List Sequence) (sequence size : ℕ) (events : List Event)
-    → is_known sequences sequence ≡ true → sequence_in sequences sequence ≡ fresh sequence size
+    → is_known sequences sequence ≡ true → IsFresh sequence size (sequence_in sequences sequence)
     → CountsDeliveries (fixed_after sequence (empty_buffer room policy sequences) events)
     (delivered_to sequence (empty_buffer room policy sequences) events)
     (sequence_in (state_after (empty_buffer room policy sequences) events).sequences sequence)
@@ -45,7 +45,7 @@ pub record IsHistoryOf (size : ℕ) (calls : List Call) (pages : List Page) (seq
   pub cut : CutsInto size (packets_of calls) pages
   pub countable : begun_count calls ≤ last_count
   pub known : is_known sequences sequence ≡ true
-  pub start : sequence_in sequences sequence ≡ fresh sequence record_size
+  pub start : IsFresh sequence record_size (sequence_in sequences sequence)
   pub arrivals : ArePagesOf sequence pages events
   pub closes : IsTrue (closes_last sequence false events)
 

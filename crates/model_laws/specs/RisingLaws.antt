@@ -1,4 +1,4 @@
--- What a buffer knows of a sequence's ids are rising lists: so it depends on which ids they are, and not on the order in which
+-- What a buffer knows of a sequence's positions are rising lists: so it depends on which they are, and not on the order in which
 -- they came. And a second close of a sequence changes nothing.
 use Rattle.std.specs.Prelude.{◌≡◌, ℕ, ◌==◌, ◌<◌, ◌||◌, true, List, [], ◌∷◌, ⊤}
 use Rattle.trace_model.specs.Sequences.{Sequence, is_among, with_number, rising, is_known}
@@ -12,7 +12,7 @@ IsRising [] = ⊤
 IsRising (n ∷ []) = ⊤
 IsRising (n ∷ next ∷ numbers) = (n < next) × IsRising (next ∷ numbers)
 
--- of each sequence, the ids that arrived and the final ones
+-- of each sequence, the positions that arrived and the final ones
 abbrev pub AllRising : List Sequence → Type 0
 AllRising [] = ⊤
 AllRising (state ∷ others) = (IsRising state.arrived × IsRising state.final) × AllRising others

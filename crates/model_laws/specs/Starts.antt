@@ -9,7 +9,7 @@ use Rattle.trace_model.specs.Row.{Chain}
 use Rattle.trace_model.specs.History.{Event, Arrives, ArrivesInPart, Patched, Committed, Closed, Read}
 use Rattle.trace_model.specs.Causes.{Fixed, is_same_place}
 
--- The chunk is what there is of the page with this id, whole or in part: it continues the page before where the page does,
+-- The chunk is what there is of the page at this position, whole or in part: it continues the page before where the page does,
 -- and has no more fragments. Nothing is said of its bytes, which patches change.
 pub record IsOfPage (pages : List Page) (chunk_id : ℕ) (chunk : Chunk) : Type 0 where
   pub page : Page

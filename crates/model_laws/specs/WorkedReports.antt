@@ -8,4 +8,4 @@ use Rattle.model_laws.specs.OutcomeLaws.{IsHistoryOf}
 -- a history that meets what the laws on reports ask
 abbrev pub WorkedReport : Type 0
 WorkedReport =
-    IsHistoryOf 2036 halved_calls halved_pages (fresh 2 2064 ∷ fresh 3 2064 ∷ []) 2 2064 (taken 2 0 halved_pages ++ ended)
+    IsHistoryOf 2036 halved_calls halved_pages (fresh 2 2064 0 ∷ fresh 3 2064 0 ∷ []) 2 2064 (taken 2 0 halved_pages ++ ended)

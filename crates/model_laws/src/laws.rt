@@ -58,7 +58,7 @@ pub fn marks_tell_what_is_missing()
     ensures { MarksTellWhatIsMissing }
 {}
 
-/// The ids that a buffer knows of a sequence are rising lists, which are the same where their members
+/// The positions that a buffer knows of a sequence are rising lists, which are the same where their members
 /// are.
 pub fn rising_lists_are_sets()
     ensures { RisingListsAreSets }

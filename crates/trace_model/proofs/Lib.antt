@@ -10,6 +10,7 @@ pub mod FixedLemmas
 pub mod JoinLemmas
 pub mod LiveLemmas
 pub mod LossPlaceLemmas
+pub mod NamingLemmas
 pub mod OneOutcomeLemmas
 pub mod OutcomeLemmas
 pub mod PacketLemmas

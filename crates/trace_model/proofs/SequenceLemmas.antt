@@ -2,7 +2,7 @@
 use Rattle.std.proofs.Common.{◌≡◌, ◌∙◌, ℕ, Bool, true, false, ◌||◌, List, [], ◌∷◌, map, refl, sym, ap}
 use Rattle.std.specs.Prelude.{cond, ◌==◌, nat_lt}
 use Rattle.std.proofs.lemmas.Bool.{eqb-true, eq-eqb, ne_eqb, or_right, false≢true}
-use Rattle.trace_model.specs.Sequences.{Sequence, sequence_in, is_known, changed_at, is_among, with_number}
+use Rattle.trace_model.specs.Sequences.{Sequence, fresh, IsFresh, sequence_in, is_known, changed_at, is_among, with_number}
 
 module _ (f : Sequence → Sequence) (keeps : (s : Sequence) → (f s).number ≡ s.number) where
   pub sequence_in-map : (ss : List Sequence) (q : ℕ) → is_known ss q ≡ true → sequence_in (map f ss) q ≡ f (sequence_in ss q)
@@ -83,3 +83,7 @@ among_more i j numbers h = among_with j i numbers ∙ or_right (j == i) (is_amon
 
 pub among_new : (i : ℕ) (numbers : List ℕ) → is_among i (with_number i numbers) ≡ true
 among_new i numbers = among_with i i numbers ∙ ap (λ (b : Bool). b || is_among i numbers) (eq-eqb i i refl)
+
+-- a sequence that is a new one with some first id is one of which nothing has arrived
+pub fresh_is : (number size from : ℕ) (state : Sequence) → state ≡ fresh number size from → IsFresh number size state
+fresh_is number size from state is = is ∙ ap (λ (s : Sequence). fresh number size s.from) (sym is)

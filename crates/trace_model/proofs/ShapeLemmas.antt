@@ -1,4 +1,4 @@
--- No event but its close changes the number of a sequence, the length of its records, or that it is open.
+-- No event but its close changes the number of a sequence, the length of its records, the id of its first chunk, or that it is open.
 use Rattle.std.proofs.Common.{◌≡◌, ◌∙◌, ℕ, Bool, true, false, ◌||◌, List, [], ◌∷◌, length, map, refl, sym, ap}
 use Rattle.std.specs.Prelude.{cond, ◌==◌, filter}
 use Rattle.std.specs.List.{list_any}
@@ -17,10 +17,11 @@ use Rattle.trace_model.specs.History.{Event, Arrives, ArrivesInPart, Patched, Co
 pub record Shape : Type 0 where
   pub number : ℕ
   pub size : ℕ
+  pub from : ℕ
   pub closed : Bool
 
 abbrev pub shape_of : Bool → Sequence → Shape
-shape_of all state = record { number = state.number; size = state.size; closed = cond all state.closed false }
+shape_of all state = record { number = state.number; size = state.size; from = state.from; closed = cond all state.closed false }
 
 -- the event closes a sequence
 abbrev pub is_close : Event → Bool
@@ -90,7 +91,7 @@ module _ (all : Bool) where
 
   -- one sequence, by its shape
   abbrev shape_in : List Shape → ℕ → Shape
-  shape_in [] q = shape_of all (fresh q 0)
+  shape_in [] q = shape_of all (fresh q 0 0)
   shape_in (s ∷ ss) q = cond (s.number == q) s (shape_in ss q)
 
   in_shapes : (ss : List Sequence) (q : ℕ) → shape_of all (sequence_in ss q) ≡ shape_in (shapes ss) q
@@ -127,6 +128,9 @@ shapes_event b event = step (is_known b.sequences (event_sequence event))
 
 pub size_after : (b : Buffer) (event : Event) (q : ℕ) → (sequence_in (buffer_after b event).sequences q).size ≡ (sequence_in b.sequences q).size
 size_after b event q = ap (λ (s : Shape). s.size) (same_shape false b.sequences (buffer_after b event).sequences q (shapes_event b event))
+
+pub from_after : (b : Buffer) (event : Event) (q : ℕ) → (sequence_in (buffer_after b event).sequences q).from ≡ (sequence_in b.sequences q).from
+from_after b event q = ap (λ (s : Shape). s.from) (same_shape false b.sequences (buffer_after b event).sequences q (shapes_event b event))
 
 -- one that closes none leaves open what is open
 pub closed_after : (b : Buffer) (event : Event) (q : ℕ) → is_close event ≡ false → (sequence_in (buffer_after b event).sequences q).closed ≡ (sequence_in b.sequences q).closed

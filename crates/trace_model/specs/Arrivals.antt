@@ -49,7 +49,7 @@ pub data Arrived : Type 0 where
   -- the number of the first fragment that can't be read
   BadChunk : (fragment : ℕ) → Arrived
 
--- an id so far ahead of the least missing one is refused
+-- a position so far ahead of the least missing one is refused
 abbrev pub is_too_far : Sequence → ℕ → Bool
 is_too_far state chunk_id = nat_le (base_of state + IDS_AHEAD) chunk_id
 
@@ -82,7 +82,7 @@ partial_arrival_of buffer sequence chunk_id count =
     else if is_too_far (sequence_in buffer.sequences sequence) chunk_id then TooFar
     else placing_of buffer sequence chunk_id
 
--- the id has arrived: where the cursor has passed all fragments of the chunk it moves to the next id
+-- the chunk has arrived: where the cursor has passed all its fragments it moves to the next position
 abbrev pub with_arrived : ℕ → ℕ → Sequence → Sequence
 with_arrived chunk_id count state = record state {
   arrived = with_number chunk_id state.arrived;
@@ -116,7 +116,7 @@ settled Duplicate buffer sequence chunk_id chunk = buffer
 settled TooFar buffer sequence chunk_id chunk = buffer
 settled (BadChunk fragment) buffer sequence chunk_id chunk = buffer
 
--- after this outcome the id has arrived
+-- after this outcome the chunk has arrived
 abbrev pub makes_arrive : Arrived → Bool
 makes_arrive Kept = true
 makes_arrive Rewritten = true

@@ -3,7 +3,7 @@
 use Rattle.std.specs.Prelude.{◌≡◌, ℕ, Bool, true, false, not, ◌&&◌, ◌||◌, ◌==◌, IsTrue, List, [], ◌∷◌, count_by, ⊤}
 use Rattle.std.specs.List.{list_any}
 use Rattle.trace_base.specs.declared.policy.FullPolicy.{FullPolicy}
-use Rattle.trace_model.specs.Sequences.{Sequence, fresh, sequence_in, is_known}
+use Rattle.trace_model.specs.Sequences.{Sequence, IsFresh, sequence_in, is_known}
 use Rattle.trace_model.specs.Buffers.{empty_buffer}
 use Rattle.trace_model.specs.History.{Event, Arrives, ArrivesInPart, Committed, Closed, state_after}
 use Rattle.trace_model.specs.Counts.{raised}
@@ -39,7 +39,7 @@ AreDistinct (fixed ∷ others) =
 -- No packet has two outcomes: the places at which outcomes are fixed are distinct.
 abbrev pub PacketsHaveOneOutcome : Type 0
 PacketsHaveOneOutcome = (room : ℕ) (policy : FullPolicy) (sequences : List Sequence) (sequence size : ℕ) (events : List Event)
-    → is_known sequences sequence ≡ true → sequence_in sequences sequence ≡ fresh sequence size
+    → is_known sequences sequence ≡ true → IsFresh sequence size (sequence_in sequences sequence)
     → IsTrue (closes_last sequence false events)
     → AreDistinct (fixed_after sequence (empty_buffer room policy sequences) events)
 
@@ -53,6 +53,6 @@ pub record AreCounted (fixed : List Fixed) (state : Sequence) : Type 0 where
 -- What a sequence has counted are the outcomes that were fixed.
 abbrev pub CountsAreOutcomes : Type 0
 CountsAreOutcomes = (room : ℕ) (policy : FullPolicy) (sequences : List Sequence) (sequence size : ℕ) (events : List Event)
-    → is_known sequences sequence ≡ true → sequence_in sequences sequence ≡ fresh sequence size
+    → is_known sequences sequence ≡ true → IsFresh sequence size (sequence_in sequences sequence)
     → AreCounted (fixed_after sequence (empty_buffer room policy sequences) events)
     (sequence_in (state_after (empty_buffer room policy sequences) events).sequences sequence)

@@ -6,6 +6,7 @@ use Rattle.std.specs.List.{AllZip, list_all}
 use Rattle.trace_base.specs.declared.limits.TheConstants.{MAX_FRAGMENTS}
 use Rattle.wire_varint.specs.Varint.{redundant}
 use Rattle.trace_model.specs.Calls.{Call}
+use Rattle.trace_model.specs.Ids.{named_image, named_patches}
 use Rattle.trace_model.specs.Images.{Image, Patch}
 use Rattle.trace_model.specs.Packets.{Packet, Text, NestedLength, flat, open_places, body_of, is_lost, packets_of, kept_of}
 use Rattle.trace_model.specs.Pages.{Page, laid, images_from, patches_of}
@@ -184,9 +185,16 @@ pub record CutsInto (size : ℕ) (packets : List Packet) (pages : List Page) : T
   pub begins : IsTrue (all_begin_well size packets (chains_of pages))
 
 -- The images of this sequence, with the patches that each brings, are a cut of the bodies of the packets that the calls
--- make. Image i has the chunk id i.
+-- make. Image i has the position i.
 pub record IsCut (size sequence : ℕ) (calls : List Call) (images : List Image) (patches : List (List Patch)) : Type 0 where
   pub pages : List Page
   pub images_are : images ≡ images_from sequence 0 pages
   pub patches_are : patches ≡ map (λ (page : Page). page.patches) pages
+  pub cut : CutsInto size (packets_of calls) pages
+
+-- The same of images and patches as they stand in chunks and in bodies: named by ids, of which the first is `from`.
+pub record IsCutFrom (size sequence from : ℕ) (calls : List Call) (images : List Image) (patches : List (List Patch)) : Type 0 where
+  pub pages : List Page
+  pub images_are : images ≡ map (named_image from) (images_from sequence 0 pages)
+  pub patches_are : patches ≡ map (λ (page : Page). named_patches from page.patches) pages
   pub cut : CutsInto size (packets_of calls) pages

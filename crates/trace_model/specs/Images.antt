@@ -1,6 +1,8 @@
 -- Images of chunks: as the service takes them, and as their fragments tell them. After the shared memory ABI of the
--- tracing service: a chunk has a header and a payload, and the payload holds fragments of packets. A chunk's id is its
--- position in its sequence: the first chunk of a writer has the id 0, and the others follow.
+-- tracing service: a chunk has a header and a payload, and the payload holds fragments of packets. A chunk of a sequence
+-- is named by its position in all definitions, also where a field is called `chunk_id` as in a header: the first chunk of
+-- a writer has the position 0, and the others follow. Its id stands in headers and in patches that travel; `Ids` puts it
+-- on and takes it off.
 use Rattle.std.specs.Prelude.{ℕ, ◌+◌, ◌-◌, ◌/◌, ◌%◌, Bool, true, false, ◌&&◌, nat_le, ◌==◌, List, [], ◌∷◌, ◌++◌, length, take, drop}
 
 -- A fragment of a packet. Its place is that of its first byte in the payload, behind its size.

@@ -14,6 +14,7 @@ pub mod Fading
 pub mod Fields
 pub mod Fragments
 pub mod History
+pub mod Ids
 pub mod Images
 pub mod Laws
 pub mod PacketLaws

@@ -35,7 +35,7 @@ flag_where set flag = if set then flag else 0
 abbrev pub flags_of : Page → ℕ
 flags_of page = flag_where page.continues 1 + flag_where page.runs_on 2 + flag_where page.awaits 4
 
--- the page as an image of this sequence, with this chunk id
+-- the page as an image of this sequence, at this position
 abbrev pub image_of : ℕ → ℕ → Page → Image
 image_of sequence chunk_id page = record {
   sequence = sequence;
@@ -45,7 +45,7 @@ image_of sequence chunk_id page = record {
   payload = laid page.dropped page.fragments page.rest;
 }
 
--- the images of a writer's pages, which have the chunk ids from this one on
+-- the images of a writer's pages, which have the positions from this one on
 abbrev pub images_from : ℕ → ℕ → List Page → List Image
 images_from sequence chunk_id [] = []
 images_from sequence chunk_id (page ∷ pages) =

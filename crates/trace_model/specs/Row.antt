@@ -1,4 +1,4 @@
--- The row of a sequence: the fragments of its chunks in rising id, joined to chains over the flags, with a gap for each
+-- The row of a sequence: the fragments of its chunks in rising position, joined to chains over the flags, with a gap for each
 -- chunk that isn't there, and the stop place as its last link. It is built from the right: a fragment is put before the
 -- rest of the row, and joined to the chain that stands there, if it runs on into it.
 use Rattle.std.specs.Prelude.{ℕ, zero, suc, ◌-◌, max, Bool, true, false, ◌&&◌, ◌||◌, not, ◌==◌, List, [], ◌∷◌, ◌++◌, length, drop, Option, Some, None, if◌then◌else◌}

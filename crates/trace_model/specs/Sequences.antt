@@ -1,5 +1,5 @@
 -- What a buffer knows of one sequence: what has arrived, how far a reader has come, and what was lost.
-use Rattle.std.specs.Prelude.{ℕ, zero, suc, ◌-◌, max, Bool, false, ◌&&◌, nat_lt, ◌==◌, List, [], ◌∷◌, length, map, if◌then◌else◌}
+use Rattle.std.specs.Prelude.{◌≡◌, ℕ, zero, suc, ◌-◌, max, Bool, false, ◌&&◌, nat_lt, ◌==◌, List, [], ◌∷◌, length, map, if◌then◌else◌}
 use Rattle.std.specs.List.{list_any}
 use Rattle.trace_model.specs.Counts.{one_if}
 use Rattle.trace_model.specs.Images.{Chunk}
@@ -15,12 +15,14 @@ pub record Sequence : Type 0 where
   pub number : ℕ
   -- the size of each of its records
   pub size : ℕ
-  -- the ids that arrived complete, rising
+  -- the id of its first chunk, by which ids that come are turned into positions
+  pub from : ℕ
+  -- the positions that arrived complete, rising
   pub arrived : List ℕ
   -- what a reader has passed
   pub cursor : Cursor
   pub closed : Bool
-  -- the ids that had a live partial record when it was closed, rising
+  -- the positions that had a live partial record when it was closed, rising
   pub final : List ℕ
   -- something was passed since the last delivery
   pub missing : Bool
@@ -36,10 +38,11 @@ abbrev pub first_place : Cursor
 first_place = record { chunk_id = 0; passed = 0 }
 
 -- a sequence of which nothing has arrived
-abbrev pub fresh : ℕ → ℕ → Sequence
-fresh number size = record {
+abbrev pub fresh : (number size from : ℕ) → Sequence
+fresh number size from = record {
   number = number;
   size = size;
+  from = from;
   arrived = [];
   cursor = first_place;
   closed = false;
@@ -50,6 +53,10 @@ fresh number size = record {
   lost = 0;
   cut = 0;
 }
+
+-- nothing has arrived of the sequence, whatever the id of its first chunk is
+abbrev pub IsFresh : (number size : ℕ) → Sequence → Type 0
+IsFresh number size state = state ≡ fresh number size state.from
 
 -- the number is in the list
 abbrev pub is_among : ℕ → List ℕ → Bool
@@ -75,7 +82,7 @@ abbrev pub first_absent : ℕ → ℕ → List ℕ → ℕ
 first_absent zero n numbers = n
 first_absent (suc tries) n numbers = if is_among n numbers then first_absent tries (suc n) numbers else n
 
--- the least id that hasn't arrived complete
+-- the least position that hasn't arrived complete
 abbrev pub base_of : Sequence → ℕ
 base_of state = first_absent (length state.arrived) 0 state.arrived
 
@@ -84,11 +91,11 @@ abbrev pub above_all : List ℕ → ℕ
 above_all [] = 0
 above_all (n ∷ numbers) = max (suc n) (above_all numbers)
 
--- one above the last id of which a closed sequence ever had anything
+-- one above the last position of which a closed sequence ever had anything
 abbrev pub end_of : Sequence → ℕ
 end_of state = max (above_all state.arrived) (above_all state.final)
 
--- of so many fragments of an id, those that the cursor hasn't passed
+-- of so many fragments of a chunk, those that the cursor hasn't passed
 abbrev pub unread_of : Sequence → ℕ → ℕ → ℕ
 unread_of state chunk_id count =
     if nat_lt chunk_id state.cursor.chunk_id then 0
@@ -103,7 +110,7 @@ unread_starts state chunk_id chunk =
 
 -- the sequence with this number among those of a buffer
 abbrev pub sequence_in : List Sequence → ℕ → Sequence
-sequence_in [] number = fresh number 0
+sequence_in [] number = fresh number 0 0
 sequence_in (state ∷ others) number = if state.number == number then state else sequence_in others number
 
 -- the buffer has the sequence

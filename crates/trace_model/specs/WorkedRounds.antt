@@ -79,7 +79,7 @@ crowded_pages = plain_page (replicate MAX_FRAGMENTS []) 61428 ∷ plain_page ([]
 
 -- a buffer with room for two such chunks
 abbrev pub crowded_buffer : Buffer
-crowded_buffer = empty_buffer (128 * 1024) Ring (fresh 2 65536 ∷ fresh 3 65536 ∷ [])
+crowded_buffer = empty_buffer (128 * 1024) Ring (fresh 2 65536 0 ∷ fresh 3 65536 0 ∷ [])
 
 -- both chunks are taken, and then the end
 abbrev pub crowded_events : List Event

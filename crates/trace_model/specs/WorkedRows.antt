@@ -54,9 +54,9 @@ no_limit = 2 ^ 64 - 1
 
 -- a buffer of so many KB for writers 1 and 2, with chunks of this payload
 abbrev pub ring_of : ℕ → ℕ → Buffer
-ring_of kb payload = empty_buffer (kb * 1024) Ring (fresh 2 (record_size payload) ∷ fresh 3 (record_size payload) ∷ [])
+ring_of kb payload = empty_buffer (kb * 1024) Ring (fresh 2 (record_size payload) 0 ∷ fresh 3 (record_size payload) 0 ∷ [])
 
--- the service takes these pages, the first of which has the id
+-- the service takes these pages, the first of which has the position
 abbrev pub taken : ℕ → ℕ → List Page → List Event
 taken sequence chunk_id [] = []
 taken sequence chunk_id (page ∷ pages) =
@@ -155,7 +155,7 @@ pub record OverwritesUnread : Type 0 where
 
 -- With the discard policy the 14th and the 15th chunk are discarded, the last one also behind a read.
 abbrev pub discard_buffer : Buffer
-discard_buffer = empty_buffer 4096 Discard (fresh 2 304 ∷ fresh 3 304 ∷ [])
+discard_buffer = empty_buffer 4096 Discard (fresh 2 304 0 ∷ fresh 3 304 0 ∷ [])
 
 -- fourteen chunks, a read, one chunk more, and the end
 abbrev pub discard_events : List Event
@@ -284,7 +284,7 @@ halved_pages =
 
 -- a discard buffer with room for one record
 abbrev pub halved_buffer : Buffer
-halved_buffer = empty_buffer 4096 Discard (fresh 2 2064 ∷ fresh 3 2064 ∷ [])
+halved_buffer = empty_buffer 4096 Discard (fresh 2 2064 0 ∷ fresh 3 2064 0 ∷ [])
 
 -- a packet that runs into a discarded chunk counts as discarded
 pub record RunsIntoDiscarded : Type 0 where

@@ -15,7 +15,7 @@ abbrev pub settled_chunk : List Patch → ℕ → Chunk → Chunk
 settled_chunk patches chunk_id chunk =
     record chunk { awaits = false; fragments = settled_fragments patches chunk_id chunk.fragments }
 
--- the pages from this chunk id on, once these patches are put in
+-- the pages from this position on, once these patches are put in
 abbrev pub written_slots : List Patch → ℕ → List Page → List Slot
 written_slots patches chunk_id [] = []
 written_slots patches chunk_id (page ∷ pages) =

@@ -6,7 +6,6 @@ use Rattle.std.proofs.lemmas.Bool.{eqb-true, eq-eqb}
 use Rattle.std.proofs.lemmas.Option.{same_Some, slice_get-map, slice_get-get_or, slice_get_within}
 use Rattle.std.proofs.lemmas.List.{length-map}
 use Rattle.trace_base.proofs.Choices.{match_true, match_false}
-use Rattle.trace_base.specs.declared.policy.WriterPolicy.TheVariants.{Drops}
 use Rattle.trace_base.specs.declared.policy.WriterSpec.{WriterSpec}
 use Rattle.page_geometry.specs.Sizes.{record_size}
 use Rattle.trace_model.specs.Images.{Image, Chunk, Fragment, Patch, has_flag_1, whole_chunk}
@@ -28,7 +27,7 @@ use Rattle.delivery_laws.specs.DeliveryLaws.{IsAccountOf}
 use Rattle.delivery_laws.proofs.WrittenPackets.{AreFull, are_full}
 use Rattle.delivery_laws.proofs.CompleteLemmas.{full_at}
 use Rattle.delivery_laws.proofs.OrderLemmas.{every_writer_is_told}
-use Rattle.chunk_plain.specs.Setup.{Setup, size_of}
+use Rattle.chunk_plain.specs.Setup.{Setup, size_of, no_writer}
 use Rattle.chunk_plain.specs.Drafts.{IsFound}
 use Rattle.chunk_plain.specs.Views.{At, Content, Completed, Committed, WriterView, newcomer, Found, Look, Noted, Arrive, Partial, Patched, Closed, Read, Commit, ServiceView, taken_of}
 use Rattle.chunk_plain.specs.World.{writer}
@@ -144,21 +143,21 @@ module _ (size place : ℕ) (view : WriterView) (held : List Image) (cut : HasCu
   nothing : (come : ℕ) (closed : Bool) (due : List Patch) (events : List Event) → due ≡ [] → Ordered come closed [] events → Ordered come closed due events
   nothing come closed due events none order = subst (λ (ps : List Patch). Ordered come closed ps events) (sym none) order
 
-  other_arrives : (other id come : ℕ) (closed : Bool) (due : List Patch) (events : List Event) (content : Option Content) → due ≡ [] → (other == q) ≡ false
-      → Ordered come closed [] events → Ordered come closed due (histories.arrival_of other id content ++ events)
-  other_arrives other id come closed due events None none apart order = nothing come closed due events none order
-  other_arrives other id come closed due events (Some content) none apart order = by_reading (reading_of content.image.count content.image.payload)
+  other_arrives : (other position come : ℕ) (closed : Bool) (due : List Patch) (events : List Event) (content : Option Content) → due ≡ [] → (other == q) ≡ false
+      → Ordered come closed [] events → Ordered come closed due (histories.arrival_of other position content ++ events)
+  other_arrives other position come closed due events None none apart order = nothing come closed due events none order
+  other_arrives other position come closed due events (Some content) none apart order = by_reading (reading_of content.image.count content.image.payload)
     where
-      by_reading : (reading : Reading) → Ordered come closed due (once_read (λ chunk. model.Arrives other id chunk) content.image.flags reading ++ events)
+      by_reading : (reading : Reading) → Ordered come closed due (once_read (λ chunk. model.Arrives other position chunk) content.image.flags reading ++ events)
       by_reading (Fragments fragments) = (none, match_false (other == q) _ _ apart order)
       by_reading (Unreadable number) = nothing come closed due events none order
 
-  other_in_part : (other id count come : ℕ) (closed : Bool) (due : List Patch) (events : List Event) (found : Option Found) → due ≡ [] → (other == q) ≡ false
-      → Ordered come closed [] events → Ordered come closed due (histories.part_of other id count found ++ events)
-  other_in_part other id count come closed due events None none apart order = nothing come closed due events none order
-  other_in_part other id count come closed due events (Some found) none apart order = by_reading (reading_of count found.sealed)
+  other_in_part : (other position count come : ℕ) (closed : Bool) (due : List Patch) (events : List Event) (found : Option Found) → due ≡ [] → (other == q) ≡ false
+      → Ordered come closed [] events → Ordered come closed due (histories.part_of other position count found ++ events)
+  other_in_part other position count come closed due events None none apart order = nothing come closed due events none order
+  other_in_part other position count come closed due events (Some found) none apart order = by_reading (reading_of count found.sealed)
     where
-      by_reading : (reading : Reading) → Ordered come closed due (once_read (λ chunk. model.ArrivesInPart other id chunk) found.head.flags reading ++ events)
+      by_reading : (reading : Reading) → Ordered come closed due (once_read (λ chunk. model.ArrivesInPart other position chunk) found.head.flags reading ++ events)
       by_reading (Fragments fragments) = (none, match_false (other == q) _ _ apart order)
       by_reading (Unreadable number) = nothing come closed due events none order
 
@@ -176,13 +175,13 @@ module _ (size place : ℕ) (view : WriterView) (held : List Image) (cut : HasCu
   pub order_events : (notes : List Noted) (come : ℕ) (closed : Bool) (due : List Patch) → InOrder (all_images view held) service q come closed due notes
       → Ordered come closed due (flat_map (happened service) notes)
   order_events [] come closed due order = order
-  order_events (Arrive other id ∷ notes) come closed due order =
+  order_events (Arrive other position ∷ notes) come closed due order =
       let events : List Event = flat_map (happened service) notes in
       by_match (other == q) order.1
       (λ same h.
       let c = comes come h.2 h.3 in
-      let is : happened service (Arrive other id) ≡ model.Arrives q come c.sheet.chunk ∷ [] =
-      ap (λ (s : ℕ). happened service (Arrive s id)) (eqb-true other q same) ∙ ap (λ (i : ℕ). happened service (Arrive q i)) h.1 ∙ c.event in
+      let is : happened service (Arrive other position) ≡ model.Arrives q come c.sheet.chunk ∷ [] =
+      ap (λ (s : ℕ). happened service (Arrive s position)) (eqb-true other q same) ∙ ap (λ (i : ℕ). happened service (Arrive q i)) h.1 ∙ c.event in
       subst (λ (es : List Event). Ordered come closed due (es ++ events)) (sym is) (
         order.0,
         match_true (q == q) _ _ (eq-eqb q q refl) (
@@ -194,26 +193,26 @@ module _ (size place : ℕ) (view : WriterView) (held : List Image) (cut : HasCu
           subst (λ (ps : List Patch). Ordered (suc come) closed ps events) (sym c.patches) (order_events notes (suc come) closed h.2.patches h.4),
         ),
       ))
-      (λ apart rest. other_arrives other id come closed due events (content_at service other id) order.0 apart (order_events notes come closed [] rest))
-  order_events (Partial other id count ∷ notes) come closed due order =
+      (λ apart rest. other_arrives other position come closed due events (content_at service other position) order.0 apart (order_events notes come closed [] rest))
+  order_events (Partial other position count ∷ notes) come closed due order =
       let events : List Event = flat_map (happened service) notes in
       by_match (other == q) order.1
       (λ same h.
       let c = comes_in_part come count h.2 in
-      let is : happened service (Partial other id count) ≡ model.ArrivesInPart q come c.chunk ∷ [] =
-      ap (λ (s : ℕ). happened service (Partial s id count)) (eqb-true other q same) ∙ ap (λ (i : ℕ). happened service (Partial q i count)) h.1 ∙ c.event in
+      let is : happened service (Partial other position count) ≡ model.ArrivesInPart q come c.chunk ∷ [] =
+      ap (λ (s : ℕ). happened service (Partial s position count)) (eqb-true other q same) ∙ ap (λ (i : ℕ). happened service (Partial q i count)) h.1 ∙ c.event in
       subst (λ (es : List Event). Ordered come closed due (es ++ events)) (sym is)
       (order.0, match_true (q == q) _ _ (eq-eqb q q refl) (h.0, refl, c.part, order_events notes come closed [] h.3)))
-      (λ apart rest. other_in_part other id count come closed due events (found_among (other - 2) id count service.looks) order.0 apart (order_events notes come closed [] rest))
-  order_events (Patched other id ∷ notes) come closed due order =
+      (λ apart rest. other_in_part other position count come closed due events (found_among (other - 2) position count service.looks) order.0 apart (order_events notes come closed [] rest))
+  order_events (Patched other position ∷ notes) come closed due order =
       let events : List Event = flat_map (happened service) notes in
       by_match (other == q) order
       (λ same h.
-      let is : happened service (Patched other id) ≡ model.Patched q h.0.patches ∷ [] =
-      ap (λ (s : ℕ). happened service (Patched s id)) (eqb-true other q same) ∙ ap (histories.patches_of q) h.1 in
+      let is : happened service (Patched other position) ≡ model.Patched q h.0.patches ∷ [] =
+      ap (λ (s : ℕ). happened service (Patched s position)) (eqb-true other q same) ∙ ap (histories.patches_of q) h.1 in
       subst (λ (es : List Event). Ordered come closed due (es ++ events)) (sym is)
       (match_true (q == q) _ _ (eq-eqb q q refl) (h.2, order_events notes come closed [] h.3)))
-      (λ apart rest. other_patched other come closed due events (content_at service other id) rest.0 apart (order_events notes come closed [] rest.1))
+      (λ apart rest. other_patched other come closed due events (content_at service other position) rest.0 apart (order_events notes come closed [] rest.1))
   order_events (Closed other ∷ notes) come closed due order =
       by_match (other == q) order.1
       (λ same h. (order.0, match_true (other == q) _ _ same (h.0, order_events notes come true [] h.1)))
@@ -228,7 +227,7 @@ module _ (size place : ℕ) (view : WriterView) (held : List Image) (cut : HasCu
       → Tells (emissions_of view.calls) q (records_of q (records_after (first_buffers setup 1 buffers) events))
   told_by setup buffers spec get events order = by_buffer (in_one setup place spec get 1 buffers)
     where
-      by_buffer : IsOnce q (record_size (size_of setup spec.producer)) (first_buffers setup 1 buffers) ⊎ Without q (first_buffers setup 1 buffers)
+      by_buffer : IsOnce q (record_size (size_of setup spec.producer)) spec.from (first_buffers setup 1 buffers) ⊎ Without q (first_buffers setup 1 buffers)
           → Tells (emissions_of view.calls) q (records_of q (records_after (first_buffers setup 1 buffers) events))
       by_buffer (inl h) =
           let account : IsAccountOf size view.calls pages h.sequences q (record_size (size_of setup spec.producer)) events =
@@ -242,9 +241,6 @@ module _ (size place : ℕ) (view : WriterView) (held : List Image) (cut : HasCu
       → InOrder (all_images view held) service q 0 false [] service.events
       → Tells (emissions_of view.calls) q (records_of q (records_after (first_buffers setup 1 buffers) (history_of service)))
   told_of setup buffers spec get order = told_by setup buffers spec get (history_of service) (order_events service.events 0 false [] order)
-
-no_spec : WriterSpec
-no_spec = record { producer = 0; buffer = 0; policy = Drops }
 
 pub every_account_is_faithful : EveryAccountIsFaithful
 every_account_is_faithful setup buffers world account = record { known = known; told = tells }
@@ -268,8 +264,8 @@ every_account_is_faithful setup buffers world account = record { known = known; 
         same_Some (emissions_of view.calls) packets
         (sym (slice_get-map (λ (v : WriterView). emissions_of v.calls) world.writers place ∙ ap (option_map (λ (v : WriterView). emissions_of v.calls)) there) ∙ e) in
         let writers = account.writers in
-        let spec : WriterSpec = get_or setup.writers place no_spec in
-        let get = slice_get-get_or setup.writers place no_spec (omega (arith, inside, writers)) in
+        let spec : WriterSpec = get_or setup.writers place no_writer in
+        let get = slice_get-get_or setup.writers place no_writer (omega (arith, inside, writers)) in
         let counts = account.owned.counts place in
         subst (λ (ps : List (List ℕ)). Tells ps (place + 2) (records_of (place + 2) (records_after (first_buffers setup 1 buffers) (history_of world.service)))) same
         (told_of (payload_at setup place) place view (account.held place) (account.cuts place inside) world.service

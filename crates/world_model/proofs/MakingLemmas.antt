@@ -1,13 +1,14 @@
 -- The first buffers: the sequence of a writer is in one of them, or in none.
-use Rattle.std.proofs.Common.{◌≡◌, ◌∙◌, ℕ, zero, suc, ◌+◌, ◌-◌, ◌<◌, ◌≤◌, ◌⊎◌, Bool, true, false, ◌||◌, List, [], ◌∷◌, length, Some, refl, ap, subst, arith, inl, inr}
+use Rattle.std.proofs.Common.{◌≡◌, ◌∙◌, ℕ, zero, suc, ◌+◌, ◌-◌, ◌<◌, ◌≤◌, ◌⊎◌, Bool, true, false, ◌||◌, List, [], ◌∷◌, length, Some, refl, sym, ap, subst, arith, inl, inr}
 use Rattle.std.specs.Prelude.{cond, ◌==◌, slice_get}
 use Rattle.std.proofs.lemmas.Bool.{false≢true, cases_lt, eqb-true, eq-eqb, ne_eqb}
 use Rattle.trace_base.proofs.Lists.{some_there}
 use Rattle.trace_base.specs.declared.policy.FullPolicy.{FullPolicy}
 use Rattle.trace_base.specs.declared.policy.WriterSpec.{WriterSpec}
 use Rattle.page_geometry.specs.Sizes.{record_size}
-use Rattle.trace_model.specs.Sequences.{Sequence, fresh, sequence_in, is_known}
+use Rattle.trace_model.specs.Sequences.{Sequence, fresh, IsFresh, sequence_in, is_known}
 use Rattle.trace_model.specs.Buffers.{Buffer, empty_buffer}
+use Rattle.trace_model.proofs.SequenceLemmas.{fresh_is}
 use Rattle.chunk_plain.specs.Setup.{Setup, size_of}
 use Rattle.world_model.specs.FirstBuffers.{BufferSpec, sequences_from, first_buffers}
 use Rattle.world_model.proofs.ProjectLemmas.{Without, Once, Only, without_other}
@@ -29,7 +30,7 @@ known_range setup n place (spec ∷ specs) q h = step (spec.buffer == n) h (know
     here true e k rest = let same = eqb-true (place + 2) q e in (omega (arith, same), omega (arith, same))
     here false e k rest = behind (rest k)
 
-    step : (x : Bool) → is_known (cond x (fresh (place + 2) (record_size (size_of setup spec.producer)) ∷ sequences_from setup n (suc place) specs) (sequences_from setup n (suc place) specs)) q ≡ true
+    step : (x : Bool) → is_known (cond x (fresh (place + 2) (record_size (size_of setup spec.producer)) spec.from ∷ sequences_from setup n (suc place) specs) (sequences_from setup n (suc place) specs)) q ≡ true
         → (is_known (sequences_from setup n (suc place) specs) q ≡ true → IsAmong (suc place) (length specs) q) → IsAmong place (length (spec ∷ specs)) q
     step true k rest = here (place + 2 == q) refl k rest
     step false k rest = behind (rest k)
@@ -42,60 +43,78 @@ not_known setup n place specs q low = step (is_known (sequences_from setup n pla
     step false e = refl
 
 -- The buffer has the sequence of the writer with this spec, as it is at first, or hasn't it.
-pub record IsSet (setup : Setup) (n q size : ℕ) (sequences : List Sequence) (named : Bool) : Type 0 where
+pub record IsSet (setup : Setup) (n q size from : ℕ) (sequences : List Sequence) (named : Bool) : Type 0 where
   pub known : is_known sequences q ≡ named
-  pub start : named ≡ true → sequence_in sequences q ≡ fresh q size
+  pub start : named ≡ true → IsFresh q size (sequence_in sequences q)
+  pub from_is : named ≡ true → (sequence_in sequences q).from ≡ from
 
 set_from : (setup : Setup) (n place : ℕ) (specs : List WriterSpec) (i : ℕ) (spec : WriterSpec) → slice_get specs i ≡ Some spec
-    → IsSet setup n (place + i + 2) (record_size (size_of setup spec.producer)) (sequences_from setup n place specs) (spec.buffer == n)
+    → IsSet setup n (place + i + 2) (record_size (size_of setup spec.producer)) spec.from (sequences_from setup n place specs) (spec.buffer == n)
 set_from setup n place [] i spec get = absurd (cc)
 set_from setup n place (first ∷ specs) zero spec get =
     let same : first ≡ spec = cc in
     let at : place + 2 ≡ place + 0 + 2 = omega arith in
-    subst (λ (q : ℕ). IsSet setup n q (record_size (size_of setup spec.producer)) (sequences_from setup n place (first ∷ specs)) (spec.buffer == n)) at
-    (subst (λ (s : WriterSpec). IsSet setup n (place + 2) (record_size (size_of setup s.producer)) (sequences_from setup n place (first ∷ specs)) (s.buffer == n)) same
+    subst (λ (q : ℕ). IsSet setup n q (record_size (size_of setup spec.producer)) spec.from (sequences_from setup n place (first ∷ specs)) (spec.buffer == n)) at
+    (subst (λ (s : WriterSpec). IsSet setup n (place + 2) (record_size (size_of setup s.producer)) s.from (sequences_from setup n place (first ∷ specs)) (s.buffer == n)) same
     (step (first.buffer == n)))
   where
+    here : sequence_in (fresh (place + 2) (record_size (size_of setup first.producer)) first.from ∷ sequences_from setup n (suc place) specs) (place + 2)
+        ≡ fresh (place + 2) (record_size (size_of setup first.producer)) first.from
+    here =
+        ap (λ (b : Bool). cond b (fresh (place + 2) (record_size (size_of setup first.producer)) first.from) (sequence_in (sequences_from setup n (suc place) specs) (place + 2)))
+        (eq-eqb (place + 2) (place + 2) refl)
+
     step : (x : Bool)
-        → IsSet setup n (place + 2) (record_size (size_of setup first.producer)) (cond x (fresh (place + 2) (record_size (size_of setup first.producer)) ∷ sequences_from setup n (suc place) specs) (sequences_from setup n (suc place) specs)) x
+        → IsSet setup n (place + 2) (record_size (size_of setup first.producer)) first.from (cond x (fresh (place + 2) (record_size (size_of setup first.producer)) first.from ∷ sequences_from setup n (suc place) specs) (sequences_from setup n (suc place) specs)) x
     step true = record {
       known = ap (λ (b : Bool). b || is_known (sequences_from setup n (suc place) specs) (place + 2)) (eq-eqb (place + 2) (place + 2) refl);
-      start = λ e. ap (λ (b : Bool). cond b (fresh (place + 2) (record_size (size_of setup first.producer))) (sequence_in (sequences_from setup n (suc place) specs) (place + 2))) (eq-eqb (place + 2) (place + 2) refl);
+      start = λ e. fresh_is (place + 2) (record_size (size_of setup first.producer)) first.from _ here;
+      from_is = λ e. ap (λ (s : Sequence). s.from) here;
     }
     step false = record {
       known = not_known setup n (suc place) specs (place + 2) (omega arith);
       start = λ e. absurd (false≢true e);
+      from_is = λ e. absurd (false≢true e);
     }
 set_from setup n place (first ∷ specs) (suc i) spec get =
     let at : suc place + i + 2 ≡ place + suc i + 2 = omega arith in
-    let rest = subst (λ (q : ℕ). IsSet setup n q (record_size (size_of setup spec.producer)) (sequences_from setup n (suc place) specs) (spec.buffer == n)) at
+    let rest = subst (λ (q : ℕ). IsSet setup n q (record_size (size_of setup spec.producer)) spec.from (sequences_from setup n (suc place) specs) (spec.buffer == n)) at
     (set_from setup n (suc place) specs i spec get) in
     let apart : (place + 2 == place + suc i + 2) ≡ false = ne_eqb (place + 2) (place + suc i + 2) (λ e. omega (arith, e)) in
     step (first.buffer == n) rest apart
   where
-    step : (x : Bool) → IsSet setup n (place + suc i + 2) (record_size (size_of setup spec.producer)) (sequences_from setup n (suc place) specs) (spec.buffer == n)
+    behind : (place + 2 == place + suc i + 2) ≡ false
+        → sequence_in (fresh (place + 2) (record_size (size_of setup first.producer)) first.from ∷ sequences_from setup n (suc place) specs) (place + suc i + 2)
+        ≡ sequence_in (sequences_from setup n (suc place) specs) (place + suc i + 2)
+    behind apart =
+        ap (λ (b : Bool). cond b (fresh (place + 2) (record_size (size_of setup first.producer)) first.from) (sequence_in (sequences_from setup n (suc place) specs) (place + suc i + 2)))
+        apart
+
+    step : (x : Bool) → IsSet setup n (place + suc i + 2) (record_size (size_of setup spec.producer)) spec.from (sequences_from setup n (suc place) specs) (spec.buffer == n)
         → (place + 2 == place + suc i + 2) ≡ false
-        → IsSet setup n (place + suc i + 2) (record_size (size_of setup spec.producer)) (cond x (fresh (place + 2) (record_size (size_of setup first.producer)) ∷ sequences_from setup n (suc place) specs) (sequences_from setup n (suc place) specs)) (spec.buffer == n)
+        → IsSet setup n (place + suc i + 2) (record_size (size_of setup spec.producer)) spec.from (cond x (fresh (place + 2) (record_size (size_of setup first.producer)) first.from ∷ sequences_from setup n (suc place) specs) (sequences_from setup n (suc place) specs)) (spec.buffer == n)
     step true rest apart = record {
       known = ap (λ (b : Bool). b || is_known (sequences_from setup n (suc place) specs) (place + suc i + 2)) apart ∙ rest.known;
-      start = λ e. ap (λ (b : Bool). cond b (fresh (place + 2) (record_size (size_of setup first.producer))) (sequence_in (sequences_from setup n (suc place) specs) (place + suc i + 2))) apart ∙ rest.start e;
+      start = λ e. subst (IsFresh (place + suc i + 2) (record_size (size_of setup spec.producer))) (sym (behind apart)) (rest.start e);
+      from_is = λ e. ap (λ (s : Sequence). s.from) (behind apart) ∙ rest.from_is e;
     }
     step false rest apart = rest
 
 -- One buffer has the sequence, as it is at first; or none has it.
-pub record IsOnce (q size : ℕ) (bs : List Buffer) : Type 0 where
+pub record IsOnce (q size from : ℕ) (bs : List Buffer) : Type 0 where
   pub room : ℕ
   pub policy : FullPolicy
   pub sequences : List Sequence
   pub known : is_known sequences q ≡ true
-  pub start : sequence_in sequences q ≡ fresh q size
+  pub start : IsFresh q size (sequence_in sequences q)
+  pub from_is : (sequence_in sequences q).from ≡ from
   pub once : Once q (empty_buffer room policy sequences) bs
 
 module _ (setup : Setup) (place : ℕ) (spec : WriterSpec) (get : slice_get setup.writers place ≡ Some spec) where
-  pub set_at : (n : ℕ) → IsSet setup n (place + 2) (record_size (size_of setup spec.producer)) (sequences_from setup n 0 setup.writers) (spec.buffer == n)
+  pub set_at : (n : ℕ) → IsSet setup n (place + 2) (record_size (size_of setup spec.producer)) spec.from (sequences_from setup n 0 setup.writers) (spec.buffer == n)
   set_at n =
       let at : 0 + place + 2 ≡ place + 2 = omega arith in
-      subst (λ (q : ℕ). IsSet setup n q (record_size (size_of setup spec.producer)) (sequences_from setup n 0 setup.writers) (spec.buffer == n)) at
+      subst (λ (q : ℕ). IsSet setup n q (record_size (size_of setup spec.producer)) spec.from (sequences_from setup n 0 setup.writers) (spec.buffer == n)) at
       (set_from setup n 0 setup.writers place spec get)
 
   -- buffers behind the one that the writer names
@@ -107,26 +126,27 @@ module _ (setup : Setup) (place : ℕ) (spec : WriterSpec) (get : slice_get setu
       (is.known ∙ apart, none_behind (suc n) buffers (omega (arith, low)))
 
   pub in_one : (n : ℕ) (buffers : List BufferSpec)
-      → IsOnce (place + 2) (record_size (size_of setup spec.producer)) (first_buffers setup n buffers) ⊎ Without (place + 2) (first_buffers setup n buffers)
+      → IsOnce (place + 2) (record_size (size_of setup spec.producer)) spec.from (first_buffers setup n buffers) ⊎ Without (place + 2) (first_buffers setup n buffers)
   in_one n [] = inr tt
   in_one n (buffer ∷ buffers) = step (spec.buffer == n) refl (in_one (suc n) buffers)
     where
       more : (spec.buffer == n) ≡ false
-          → IsOnce (place + 2) (record_size (size_of setup spec.producer)) (first_buffers setup (suc n) buffers) ⊎ Without (place + 2) (first_buffers setup (suc n) buffers)
-          → IsOnce (place + 2) (record_size (size_of setup spec.producer)) (first_buffers setup n (buffer ∷ buffers)) ⊎ Without (place + 2) (first_buffers setup n (buffer ∷ buffers))
+          → IsOnce (place + 2) (record_size (size_of setup spec.producer)) spec.from (first_buffers setup (suc n) buffers) ⊎ Without (place + 2) (first_buffers setup (suc n) buffers)
+          → IsOnce (place + 2) (record_size (size_of setup spec.producer)) spec.from (first_buffers setup n (buffer ∷ buffers)) ⊎ Without (place + 2) (first_buffers setup n (buffer ∷ buffers))
       more e (inl h) = inl (record {
         room = h.room;
         policy = h.policy;
         sequences = h.sequences;
         known = h.known;
         start = h.start;
+        from_is = h.from_is;
         once = inr ((set_at n).known ∙ e, h.once);
       })
       more e (inr h) = inr ((set_at n).known ∙ e, h)
 
       step : (x : Bool) → (spec.buffer == n) ≡ x
-          → IsOnce (place + 2) (record_size (size_of setup spec.producer)) (first_buffers setup (suc n) buffers) ⊎ Without (place + 2) (first_buffers setup (suc n) buffers)
-          → IsOnce (place + 2) (record_size (size_of setup spec.producer)) (first_buffers setup n (buffer ∷ buffers)) ⊎ Without (place + 2) (first_buffers setup n (buffer ∷ buffers))
+          → IsOnce (place + 2) (record_size (size_of setup spec.producer)) spec.from (first_buffers setup (suc n) buffers) ⊎ Without (place + 2) (first_buffers setup (suc n) buffers)
+          → IsOnce (place + 2) (record_size (size_of setup spec.producer)) spec.from (first_buffers setup n (buffer ∷ buffers)) ⊎ Without (place + 2) (first_buffers setup n (buffer ∷ buffers))
       step true e rest =
           let same = eqb-true spec.buffer n e in
           inl (record {
@@ -135,6 +155,7 @@ module _ (setup : Setup) (place : ℕ) (spec : WriterSpec) (get : slice_get setu
             sequences = sequences_from setup n 0 setup.writers;
             known = (set_at n).known ∙ e;
             start = (set_at n).start e;
+            from_is = (set_at n).from_is e;
             once = inl (refl, (set_at n).known ∙ e, none_behind (suc n) buffers (omega (arith, same)));
           })
       step false e rest = more e rest
@@ -156,18 +177,18 @@ once_or_none setup buffers q = by_low (cases_lt q 2)
     none_here : (((2 ≤ q) × (q < length setup.writers + 2)) → ⊥) → Without q (first_buffers setup 1 buffers)
     none_here = without_other (λ s. (2 ≤ s) × (s < length setup.writers + 2)) (first_buffers setup 1 buffers) (only_writers setup 1 buffers) q
 
-    by_place : (place size : ℕ) → place + 2 ≡ q → IsOnce (place + 2) size (first_buffers setup 1 buffers) ⊎ Without (place + 2) (first_buffers setup 1 buffers)
+    by_place : (place size from : ℕ) → place + 2 ≡ q → IsOnce (place + 2) size from (first_buffers setup 1 buffers) ⊎ Without (place + 2) (first_buffers setup 1 buffers)
         → ((b : Buffer) × Once q b (first_buffers setup 1 buffers)) ⊎ Without q (first_buffers setup 1 buffers)
-    by_place place size same (inl one) =
+    by_place place size from same (inl one) =
         let b = empty_buffer one.room one.policy one.sequences in
         inl (b, subst (λ (n : ℕ). Once n b (first_buffers setup 1 buffers)) same one.once)
-    by_place place size same (inr none) = inr (subst (λ (n : ℕ). Without n (first_buffers setup 1 buffers)) same none)
+    by_place place size from same (inr none) = inr (subst (λ (n : ℕ). Without n (first_buffers setup 1 buffers)) same none)
 
     by_high : 2 ≤ q → (q < length setup.writers + 2) ⊎ (length setup.writers + 2 ≤ q)
         → ((b : Buffer) × Once q b (first_buffers setup 1 buffers)) ⊎ Without q (first_buffers setup 1 buffers)
     by_high least (inl high) =
         let there = some_there setup.writers (q - 2) (omega (arith, least, high)) in
-        by_place (q - 2) (record_size (size_of setup there.0.producer)) (omega (arith, least)) (in_one setup (q - 2) there.0 there.1 1 buffers)
+        by_place (q - 2) (record_size (size_of setup there.0.producer)) there.0.from (omega (arith, least)) (in_one setup (q - 2) there.0 there.1 1 buffers)
     by_high least (inr high) = inr (none_here (λ range. let most = range.1 in omega (arith, most, high)))
 
     by_low : (q < 2) ⊎ (2 ≤ q) → ((b : Buffer) × Once q b (first_buffers setup 1 buffers)) ⊎ Without q (first_buffers setup 1 buffers)

@@ -90,8 +90,8 @@ page_of size place n chunk view held cut content at named =
     subst (λ (xs : List (List Patch)). slice_get xs h.place ≡ Some content.patches) cut.cut.patches_are
     (get_more (completed_patches view.begun) cut.unsent h.place content.patches h.patches) in
     let is = image_at q 0 pages h.place content.image there in
-    let same : h.place ≡ n = let id = ap (λ (i : Image). i.chunk_id) is.is in omega (arith, id, named) in
-    let id_is : 0 + h.place ≡ n = omega (arith, same) in
+    let same : h.place ≡ n = let position = ap (λ (i : Image). i.chunk_id) is.is in omega (arith, position, named) in
+    let position_is : 0 + h.place ≡ n = omega (arith, same) in
     let inside = slice_get_within (completed_images view.begun) h.place content.image h.image in
     let long = ap (λ (xs : List Image). length xs) cut.cut.images_are in
     let both = length-append (completed_images view.begun) held in
@@ -99,7 +99,7 @@ page_of size place n chunk view held cut content at named =
     record {
       page = is.page;
       get = subst (λ (i : ℕ). slice_get pages i ≡ Some is.page) same is.get;
-      image = is.is ∙ ap (λ (i : ℕ). image_of q i is.page) id_is;
+      image = is.is ∙ ap (λ (i : ℕ). image_of q i is.page) position_is;
       patches = patches_at pages h.place is.page content.patches is.get brings;
       last = λ e. nil_from_length held (omega (arith, e, same, inside, long, both, as_many));
     }

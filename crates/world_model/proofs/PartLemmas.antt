@@ -23,38 +23,38 @@ use Rattle.world_model.proofs.OwnLemmas.{page_reads}
 
 -- The look
 
--- the look among these that found it: so many fragments of the writer's chunk with this id
-pub record IsLooked (place id count : ℕ) (looks : List Look) (found : Found) : Type 0 where
+-- the look among these that found it: so many fragments of the writer's chunk at this position
+pub record IsLooked (place position count : ℕ) (looks : List Look) (found : Found) : Type 0 where
   pub number : ℕ
   pub look : Look
   pub at : At looks number look
   pub found_is : look.found ≡ Some found
   pub place_is : found.place ≡ place
-  pub id_is : found.id ≡ id
+  pub position_is : found.position ≡ position
   pub count_is : length found.ends ≡ count
 
-pub looked : (place id count : ℕ) (looks : List Look) (found : Found) → found_among place id count looks ≡ Some found → IsLooked place id count looks found
-looked place id count [] found e = absurd (cc)
-looked place id count (look ∷ looks) found e = step (is_scraped place id count look.found) refl e (looked place id count looks found)
+pub looked : (place position count : ℕ) (looks : List Look) (found : Found) → found_among place position count looks ≡ Some found → IsLooked place position count looks found
+looked place position count [] found e = absurd (cc)
+looked place position count (look ∷ looks) found e = step (is_scraped place position count look.found) refl e (looked place position count looks found)
   where
-    step : (b : Bool) → is_scraped place id count look.found ≡ b → cond b look.found (found_among place id count looks) ≡ Some found
-        → (found_among place id count looks ≡ Some found → IsLooked place id count looks found) → IsLooked place id count (look ∷ looks) found
+    step : (b : Bool) → is_scraped place position count look.found ≡ b → cond b look.found (found_among place position count looks) ≡ Some found
+        → (found_among place position count looks ≡ Some found → IsLooked place position count looks found) → IsLooked place position count (look ∷ looks) found
     step true s f rest =
-        let holds : ((found.place == place) && (found.id == id)) && (length found.ends == count) ≡ true = sym (ap (is_scraped place id count) f) ∙ s in
-        let two = and_parts ((found.place == place) && (found.id == id)) (length found.ends == count) holds in
-        let both = and_parts (found.place == place) (found.id == id) two.0 in
+        let holds : ((found.place == place) && (found.position == position)) && (length found.ends == count) ≡ true = sym (ap (is_scraped place position count) f) ∙ s in
+        let two = and_parts ((found.place == place) && (found.position == position)) (length found.ends == count) holds in
+        let both = and_parts (found.place == place) (found.position == position) two.0 in
         record {
           number = 0;
           look = look;
           at = refl;
           found_is = f;
           place_is = eqb-true found.place place both.0;
-          id_is = eqb-true found.id id both.1;
+          position_is = eqb-true found.position position both.1;
           count_is = eqb-true (length found.ends) count two.1;
         }
     step false s f rest =
         let h = rest f in
-        record { number = suc h.number; look = h.look; at = h.at; found_is = h.found_is; place_is = h.place_is; id_is = h.id_is; count_is = h.count_is }
+        record { number = suc h.number; look = h.look; at = h.at; found_is = h.found_is; place_is = h.place_is; position_is = h.position_is; count_is = h.count_is }
 
 -- The bytes
 
@@ -169,16 +169,16 @@ front_patched patch (f ∷ []) (w ∷ []) h = absurd h.2
 front_patched patch (f ∷ g ∷ fs) (w ∷ []) h = absurd h.2
 front_patched patch (f ∷ fs) (w ∷ next ∷ ws) h = (h.0, h.1, front_patched patch fs (next ∷ ws) h.2)
 
-front_settled : (patches : List Patch) (id : ℕ) (fs ws : List Fragment) → ShowFragments true false fs ws → ShowFragments true false fs (settled_fragments patches id ws)
-front_settled [] id fs ws h = h
-front_settled (patch ∷ patches) id fs ws h =
-    front_settled patches id fs (cond (patch.chunk_id == id) (patched_last patch ws) ws) (step (patch.chunk_id == id))
+front_settled : (patches : List Patch) (position : ℕ) (fs ws : List Fragment) → ShowFragments true false fs ws → ShowFragments true false fs (settled_fragments patches position ws)
+front_settled [] position fs ws h = h
+front_settled (patch ∷ patches) position fs ws h =
+    front_settled patches position fs (cond (patch.chunk_id == position) (patched_last patch ws) ws) (step (patch.chunk_id == position))
   where
     step : (b : Bool) → ShowFragments true false fs (cond b (patched_last patch ws) ws)
     step true = front_patched patch fs ws h
     step false = h
 
-pub front_shows : (k id : ℕ) (patches : List Patch) (dropped : Bool) (texts : List (List ℕ)) → k < length texts
-    → ShowFragments true false (fragments_from 4 false (take k texts)) (settled_fragments patches id (fragments_from 4 dropped texts))
-front_shows k id patches dropped texts low =
-    front_settled patches id (fragments_from 4 false (take k texts)) (fragments_from 4 dropped texts) (fragments_front k 4 dropped texts low)
+pub front_shows : (k position : ℕ) (patches : List Patch) (dropped : Bool) (texts : List (List ℕ)) → k < length texts
+    → ShowFragments true false (fragments_from 4 false (take k texts)) (settled_fragments patches position (fragments_from 4 dropped texts))
+front_shows k position patches dropped texts low =
+    front_settled patches position (fragments_from 4 false (take k texts)) (fragments_from 4 dropped texts) (fragments_front k 4 dropped texts low)

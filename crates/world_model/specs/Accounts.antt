@@ -39,13 +39,13 @@ pub record IsFrontOf (found : Found) (image : Image) : Type 0 where
   pub some : 0 < length found.ends
   pub more : length found.ends < image.count
 
--- The note of a part of the chunk with this id stands on a look, which found so many fragments of it; and what was found is a
+-- The note of a part of the chunk at this position stands on a look, which found so many fragments of it; and what was found is a
 -- front of what the chunk's writer made of it, or has made so far.
-pub record IsScraped (images : List Image) (service : ServiceView) (sequence chunk_id count : ℕ) : Type 0 where
+pub record IsScraped (images : List Image) (service : ServiceView) (sequence position count : ℕ) : Type 0 where
   pub found : Found
-  pub looked : found_among (sequence - FIRST_SEQUENCE) chunk_id count service.looks ≡ Some found
+  pub looked : found_among (sequence - FIRST_SEQUENCE) position count service.looks ≡ Some found
   pub image : Image
-  pub there : slice_get images chunk_id ≡ Some image
+  pub there : slice_get images position ≡ Some image
   pub front : IsFrontOf found image
 
 -- no image of the sequence came by this commit
@@ -54,26 +54,26 @@ CommitsElsewhere service sequence place =
     (committed : Committed) → slice_get service.commits place ≡ Some committed → (committed.image.sequence == sequence) ≡ false
 
 -- The notes on one sequence are in order: so many of its chunks have come, it is closed or not, and these patches are due next.
--- Its chunks come in the order of their ids, each once and with its content, and the patches of each right behind it. Parts of a
+-- Its chunks come in the order of their positions, each once and with its content, and the patches of each right behind it. Parts of a
 -- chunk come before it. Nothing of it comes behind its close, and nothing by a commit. What is noted on other sequences is free,
 -- but that the patches which are due come first.
 abbrev pub InOrder : List Image → ServiceView → (sequence come : ℕ) → (closed : Bool) → List Patch → List Noted → Type 0
 InOrder images service sequence come closed due [] = due ≡ []
-InOrder images service sequence come closed due (Arrive other chunk_id ∷ notes) =
+InOrder images service sequence come closed due (Arrive other position ∷ notes) =
     (due ≡ [])
     × MatchBool (other == sequence)
-    ((closed ≡ false) × (chunk_id ≡ come) × (content : Content) × (content_at service sequence come ≡ Some content)
+    ((closed ≡ false) × (position ≡ come) × (content : Content) × (content_at service sequence come ≡ Some content)
     × InOrder images service sequence (suc come) closed content.patches notes)
     (InOrder images service sequence come closed [] notes)
-InOrder images service sequence come closed due (Partial other chunk_id count ∷ notes) =
+InOrder images service sequence come closed due (Partial other position count ∷ notes) =
     (due ≡ [])
     × MatchBool (other == sequence)
-    ((closed ≡ false) × (chunk_id ≡ come) × IsScraped images service sequence come count
+    ((closed ≡ false) × (position ≡ come) × IsScraped images service sequence come count
     × InOrder images service sequence come closed [] notes)
     (InOrder images service sequence come closed [] notes)
-InOrder images service sequence come closed due (Patched other chunk_id ∷ notes) =
+InOrder images service sequence come closed due (Patched other position ∷ notes) =
     MatchBool (other == sequence)
-    ((content : Content) × (content_at service sequence chunk_id ≡ Some content) × (content.patches ≡ due)
+    ((content : Content) × (content_at service sequence position ≡ Some content) × (content.patches ≡ due)
     × InOrder images service sequence come closed [] notes)
     ((due ≡ []) × InOrder images service sequence come closed [] notes)
 InOrder images service sequence come closed due (Commit place ∷ notes) =

@@ -21,7 +21,7 @@ abbrev pub sequences_from : Setup → (buffer place : ℕ) → List WriterSpec �
 sequences_from setup buffer place [] = []
 sequences_from setup buffer place (spec ∷ specs) =
     if spec.buffer == buffer
-    then fresh (sequence_of place) (record_size (size_of setup spec.producer)) ∷ sequences_from setup buffer (suc place) specs
+    then fresh (sequence_of place) (record_size (size_of setup spec.producer)) spec.from ∷ sequences_from setup buffer (suc place) specs
     else sequences_from setup buffer (suc place) specs
 
 -- the buffers, of which the first has this number; buffers count from 1
