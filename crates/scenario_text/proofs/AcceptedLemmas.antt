@@ -30,7 +30,7 @@ use Rattle.scenario_text.specs.Items.{item, with_item}
 use Rattle.scenario_text.specs.Ranges.{value}
 use Rattle.scenario_text.specs.State.{State, beginning, packet_of, is_closed}
 use Rattle.scenario_text.specs.Reasons.{front_reasons, back_reasons, refusal_of, given, lacks_writer, step_len}
-use Rattle.scenario_text.specs.Effects.{policy_of, moved, nodes_given, written, served, with_line, with_packet, with_closed, with_bytes, writer_kind, producer_kind, packet_after, with_clone}
+use Rattle.scenario_text.specs.Effects.{policy_of, moved, nodes_given, written, served, with_line, with_packet, with_closed, with_bytes, writer_kind, producer_kind, packet_after, with_clone, first_id}
 use Rattle.scenario_text.specs.Grammar.{earlier, line_left, first_left}
 use Rattle.scenario_text.specs.Scenario.{Parts, IsScenario}
 use Rattle.scenario_text.specs.Accepted.{line_calls, calls_asked, closes, is_closed_by, AsksWell}
@@ -300,8 +300,8 @@ line_keeps state number line (Producer pages page_size chunks) none told = recor
   each = told.each;
   shut = λ producer closed. told.shut producer (closed_pushed (nat_eq producer 0) state.closed producer closed);
 }
-line_keeps state number line (Writer producer buffer policy) none told =
-    let writer : WriterSpec = record { producer = value producer; buffer = value buffer; policy = policy_of policy } in
+line_keeps state number line (Writer producer buffer policy from) none told =
+    let writer : WriterSpec = record { producer = value producer; buffer = value buffer; policy = policy_of policy; from = first_id from } in
     record {
       many = omega (arith, length-append state.packets (None ∷ []), length-append state.writers (writer ∷ []), told.many);
       each = λ place. told_pushed state.packets place (calls_asked (suc place) state.lines) (told.each place);

@@ -1,7 +1,7 @@
 -- The form of a line by its first words and what stands behind them.
 use Rattle.std.proofs.Common.{◌≡◌, ℕ, Some, None, List, ◌∷◌, refl, sym, subst}
 use Rattle.scenario_text.specs.Pieces.{pieces, pieces_behind}
-use Rattle.scenario_text.specs.Forms.{form_of_words, long_form, more_words, one_word, two_words, three_words, four_words}
+use Rattle.scenario_text.specs.Forms.{form_of_words, long_form, more_words, one_word, two_words, three_words, four_words, six_words, late_words}
 use Rattle.scenario_text.proofs.PieceLemmas.{has_piece}
 
 pub first_word : (word : List ℕ) → form_of_words (word ∷ pieces_behind 32 None) ≡ one_word word
@@ -29,8 +29,24 @@ unfolding more_words pieces_behind
 fourth_word word second third fourth = refl
 
 pub fifth_word : (word second third fourth behind : List ℕ)
-    → more_words word second (third ∷ fourth ∷ pieces_behind 32 (Some behind)) ≡ None
+    → more_words word second (third ∷ fourth ∷ pieces_behind 32 (Some behind)) ≡ late_words word second third fourth (pieces 32 behind)
 unfolding more_words pieces_behind
 fifth_word word second third fourth behind =
     let has = has_piece 32 behind in
-    subst (λ (words : List (List ℕ)). more_words word second (third ∷ fourth ∷ words) ≡ None) (sym has.are) refl
+    subst (λ (words : List (List ℕ)). more_words word second (third ∷ fourth ∷ words) ≡ late_words word second third fourth words) (sym has.are) refl
+
+pub no_sixth_word : (word second third fourth fifth : List ℕ) → late_words word second third fourth (fifth ∷ pieces_behind 32 None) ≡ None
+unfolding late_words pieces_behind
+no_sixth_word word second third fourth fifth = refl
+
+pub sixth_word : (word second third fourth fifth sixth : List ℕ)
+    → late_words word second third fourth (fifth ∷ sixth ∷ pieces_behind 32 None) ≡ six_words word second third fourth fifth sixth
+unfolding late_words pieces_behind
+sixth_word word second third fourth fifth sixth = refl
+
+pub seventh_word : (word second third fourth fifth sixth behind : List ℕ)
+    → late_words word second third fourth (fifth ∷ sixth ∷ pieces_behind 32 (Some behind)) ≡ None
+unfolding late_words pieces_behind
+seventh_word word second third fourth fifth sixth behind =
+    let has = has_piece 32 behind in
+    subst (λ (words : List (List ℕ)). late_words word second third fourth (fifth ∷ sixth ∷ words) ≡ None) (sym has.are) refl

@@ -10,7 +10,7 @@ use Rattle.trace_base.specs.declared.numeral.Numeral.TheVariants.{Fits, TooLarge
 use Rattle.scenario_text.specs.declared.form.NamedPolicy.{NamedPolicy}
 use Rattle.scenario_text.specs.declared.form.Form.{Form}
 use Rattle.scenario_text.specs.declared.form.Form.TheVariants.{Buffer, Producer, Writer, OfWriter, OfProducer, Read, CloneBuffer}
-use Rattle.scenario_text.specs.declared.form.TheConstants.{MAX_CLONES, MAX_TRIES}
+use Rattle.scenario_text.specs.declared.form.TheConstants.{MAX_CLONES, MAX_TRIES, MAX_CHUNK_ID}
 use Rattle.scenario_text.specs.declared.form.NamedPolicy.TheVariants.{Drops, Stalls, StallsThenDrops}
 use Rattle.scenario_text.specs.declared.form.WriterStep.{WriterStep}
 use Rattle.scenario_text.specs.declared.form.ProducerStep.{ProducerStep}
@@ -19,9 +19,9 @@ use Rattle.scenario_text.specs.Items.{item}
 use Rattle.scenario_text.specs.Ranges.{fits, value, is_within, is_page_size, is_chunk_count}
 use Rattle.scenario_text.specs.State.{State}
 use Rattle.scenario_text.specs.Limits.{HasTries}
-use Rattle.scenario_text.specs.Effects.{policy_of, TriesFit}
+use Rattle.scenario_text.specs.Effects.{policy_of, TriesFit, IdFits}
 use Rattle.scenario_text.specs.Sound.{is_cut}
-use Rattle.scenario_text.specs.Reasons.{first, when, front_reasons, are_tries, is_out_of_range, is_producer_in_range, is_late, is_too_many, lacks_producer, lacks_buffer, lacks_writer, has_larger_chunks, has_closed_producer, meets_packet, lacks_packet, lacks_nesting, leaves_nesting}
+use Rattle.scenario_text.specs.Reasons.{first, when, front_reasons, are_tries, is_out_of_range, is_producer_in_range, is_late, is_too_many, lacks_producer, lacks_buffer, lacks_writer, has_larger_chunks, has_closed_producer, meets_packet, lacks_packet, lacks_nesting, leaves_nesting, is_id}
 use Rattle.scenario_text.proofs.SoundLemmas.{both}
 
 none_when : (test : Bool) (reason : Reason) (more : List (Option Reason)) → first (when test reason ∷ more) ≡ None
@@ -164,18 +164,19 @@ producer_cut state pages page_size chunks none =
     let known = of_producer_line state pages page_size chunks none in
     rw (known.size_is, known.count_is) refl
 
-pub room_for_writer : (state : State) (producer buffer : Numeral) (policy : NamedPolicy)
-    → first (front_reasons state (Writer producer buffer policy)) ≡ None → length state.writers < MAX_WRITERS
+pub room_for_writer : (state : State) (producer buffer : Numeral) (policy : NamedPolicy) (from : Option Numeral)
+    → first (front_reasons state (Writer producer buffer policy from)) ≡ None → length state.writers < MAX_WRITERS
 unfolding is_too_many
-room_for_writer state producer buffer policy none =
-    grind (arith, common_steps, (passed state (Writer producer buffer policy) none).room)
+room_for_writer state producer buffer policy from none =
+    grind (arith, common_steps, (passed state (Writer producer buffer policy from) none).room)
 
 -- how often a writer asks is in its range
-tries_in_range : (state : State) (producer buffer : Numeral) (policy : NamedPolicy)
-    → first (front_reasons state (Writer producer buffer policy)) ≡ None → are_tries policy ≡ true
+tries_in_range : (state : State) (producer buffer : Numeral) (policy : NamedPolicy) (from : Option Numeral)
+    → first (front_reasons state (Writer producer buffer policy from)) ≡ None → are_tries policy ≡ true
 unfolding is_out_of_range
-tries_in_range state producer buffer policy none =
-    (both (fits producer && fits buffer) (are_tries policy) (not-false _ (passed state (Writer producer buffer policy) none).in_range)).1
+tries_in_range state producer buffer policy from none =
+    (both (fits producer && fits buffer) (are_tries policy)
+    (both (fits producer && fits buffer && are_tries policy) (is_id from) (not-false _ (passed state (Writer producer buffer policy from) none).in_range)).0).1
 
 tries_within : (policy : NamedPolicy) → are_tries policy ≡ true → HasTries (policy_of policy)
 unfolding are_tries policy_of
@@ -183,9 +184,9 @@ tries_within Drops h = tt
 tries_within Stalls h = tt
 tries_within (StallsThenDrops tries) h = (within_least 1 MAX_TRIES tries h, within_most 1 MAX_TRIES tries h)
 
-pub tries_of_line : (state : State) (producer buffer : Numeral) (policy : NamedPolicy)
-    → first (front_reasons state (Writer producer buffer policy)) ≡ None → HasTries (policy_of policy)
-tries_of_line state producer buffer policy none = tries_within policy (tries_in_range state producer buffer policy none)
+pub tries_of_line : (state : State) (producer buffer : Numeral) (policy : NamedPolicy) (from : Option Numeral)
+    → first (front_reasons state (Writer producer buffer policy from)) ≡ None → HasTries (policy_of policy)
+tries_of_line state producer buffer policy from none = tries_within policy (tries_in_range state producer buffer policy from none)
 
 tries_small : (policy : NamedPolicy) → are_tries policy ≡ true → TriesFit policy
 unfolding are_tries
@@ -193,9 +194,22 @@ tries_small Drops h = tt
 tries_small Stalls h = tt
 tries_small (StallsThenDrops tries) h = let most = within_most 1 MAX_TRIES tries h in omega arith
 
-pub tries_of_writer : (state : State) (producer buffer : Numeral) (policy : NamedPolicy)
-    → first (front_reasons state (Writer producer buffer policy)) ≡ None → TriesFit policy
-tries_of_writer state producer buffer policy none = tries_small policy (tries_in_range state producer buffer policy none)
+pub tries_of_writer : (state : State) (producer buffer : Numeral) (policy : NamedPolicy) (from : Option Numeral)
+    → first (front_reasons state (Writer producer buffer policy from)) ≡ None → TriesFit policy
+tries_of_writer state producer buffer policy from none = tries_small policy (tries_in_range state producer buffer policy from none)
+
+-- the id of its first chunk has 32 bits
+id_small : (from : Option Numeral) → is_id from ≡ true → IdFits from
+unfolding is_id
+id_small None h = tt
+id_small (Some from) h = let most = within_most 0 MAX_CHUNK_ID from h in omega arith
+
+pub id_of_writer : (state : State) (producer buffer : Numeral) (policy : NamedPolicy) (from : Option Numeral)
+    → first (front_reasons state (Writer producer buffer policy from)) ≡ None → IdFits from
+unfolding is_out_of_range
+id_of_writer state producer buffer policy from none =
+    id_small from
+    (both (fits producer && fits buffer && are_tries policy) (is_id from) (not-false _ (passed state (Writer producer buffer policy from) none).in_range)).1
 
 -- ---- references
 
@@ -224,17 +238,17 @@ pub producer_named : (state : State) (producer : Numeral) (step : ProducerStep) 
 unfolding lacks_producer
 producer_named state producer step none = item_inside state.producers producer (passed state (OfProducer producer step) none).producer
 
-pub producer_of_writer : (state : State) (producer buffer : Numeral) (policy : NamedPolicy)
-    → first (front_reasons state (Writer producer buffer policy)) ≡ None → value producer ≤ length state.producers
+pub producer_of_writer : (state : State) (producer buffer : Numeral) (policy : NamedPolicy) (from : Option Numeral)
+    → first (front_reasons state (Writer producer buffer policy from)) ≡ None → value producer ≤ length state.producers
 unfolding lacks_producer
-producer_of_writer state producer buffer policy none =
-    item_inside state.producers producer (passed state (Writer producer buffer policy) none).producer
+producer_of_writer state producer buffer policy from none =
+    item_inside state.producers producer (passed state (Writer producer buffer policy from) none).producer
 
-pub buffer_of_writer : (state : State) (producer buffer : Numeral) (policy : NamedPolicy)
-    → first (front_reasons state (Writer producer buffer policy)) ≡ None → value buffer ≤ length state.buffers
+pub buffer_of_writer : (state : State) (producer buffer : Numeral) (policy : NamedPolicy) (from : Option Numeral)
+    → first (front_reasons state (Writer producer buffer policy from)) ≡ None → value buffer ≤ length state.buffers
 unfolding lacks_buffer
-buffer_of_writer state producer buffer policy none =
-    item_inside state.buffers buffer (passed state (Writer producer buffer policy) none).buffer
+buffer_of_writer state producer buffer policy from none =
+    item_inside state.buffers buffer (passed state (Writer producer buffer policy from) none).buffer
 
 pub buffer_named : (state : State) (buffer : Numeral) (limit : Option Numeral) → first (front_reasons state (Read buffer limit)) ≡ None
     → value buffer ≤ length state.buffers

@@ -25,7 +25,7 @@ use Rattle.scenario_text.specs.Ranges.{value}
 use Rattle.scenario_text.specs.State.{State, beginning}
 use Rattle.scenario_text.specs.Sound.{is_cut}
 use Rattle.scenario_text.specs.Reasons.{first, front_reasons, back_reasons, refusal_of, given, is_larger, is_out_of_range, has_larger_chunks, lacks_producer, lacks_buffer}
-use Rattle.scenario_text.specs.Effects.{policy_of, moved, nodes_given, written, with_line, with_packet, with_closed, with_bytes, served, with_clone}
+use Rattle.scenario_text.specs.Effects.{policy_of, moved, nodes_given, written, with_line, with_packet, with_closed, with_bytes, served, with_clone, first_id}
 use Rattle.scenario_text.specs.Scenario.{IsScenario, Parts}
 use Rattle.scenario_text.specs.Limits.{IsBuffer, IsProducer, IsSetUp, IsWriter}
 use Rattle.scenario_text.proofs.SoundLemmas.{cut_pages, cut_chunks}
@@ -125,12 +125,12 @@ unfolding item
 named things (Fits n) some = named_at (nat_eq n 0) things n _ refl refl refl some
 named things TooLarge some = absurd cc
 
-writer_named : (state : State) (producer buffer : Numeral) (policy : NamedPolicy)
-    → first (front_reasons state (Writer producer buffer policy)) ≡ None
-    → IsWriter state.buffers state.producers (record { producer = value producer; buffer = value buffer; policy = policy_of policy })
+writer_named : (state : State) (producer buffer : Numeral) (policy : NamedPolicy) (from : Option Numeral)
+    → first (front_reasons state (Writer producer buffer policy from)) ≡ None
+    → IsWriter state.buffers state.producers (record { producer = value producer; buffer = value buffer; policy = policy_of policy; from = first_id from })
 unfolding lacks_producer lacks_buffer has_larger_chunks is_larger
-writer_named state producer buffer policy none =
-    let pass = passed state (Writer producer buffer policy) none in
+writer_named state producer buffer policy from none =
+    let pass = passed state (Writer producer buffer policy from) none in
     let p = named state.producers producer pass.producer in
     let b = named state.buffers buffer pass.buffer in
     let larger : nat_lt (b.thing.kb * BYTES_PER_KB) (record_size (payload_size p.thing.page_size p.thing.chunks)) ≡ false =
@@ -143,7 +143,7 @@ writer_named state producer buffer policy none =
       producer_is = p.is;
       buffer_is = b.is;
       fits = grind (arith, common_steps, larger);
-      tries = tries_of_line state producer buffer policy none;
+      tries = tries_of_line state producer buffer policy from none;
     }
 
 buffer_known : (state : State) (kb : Numeral) (policy : FullPolicy) → first (front_reasons state (Buffer kb policy)) ≡ None
@@ -178,9 +178,9 @@ moved_keeps state number (Buffer kb policy) nodes none keeps =
 moved_keeps state number (Producer pages page_size chunks) nodes none keeps =
     more_producer state.buffers state.producers state.writers _ keeps (room_for_producer state pages page_size chunks none)
     (producer_known state pages page_size chunks none)
-moved_keeps state number (Writer producer buffer policy) nodes none keeps =
-    more_writer state.buffers state.producers state.writers _ keeps (room_for_writer state producer buffer policy none)
-    (writer_named state producer buffer policy none)
+moved_keeps state number (Writer producer buffer policy from) nodes none keeps =
+    more_writer state.buffers state.producers state.writers _ keeps (room_for_writer state producer buffer policy from none)
+    (writer_named state producer buffer policy from none)
 moved_keeps state number (OfWriter writer step) nodes none keeps = keeps
 moved_keeps state number (OfProducer producer step) nodes none keeps = served_keeps _ producer step keeps
 moved_keeps state number (Read buffer limit) nodes none keeps = keeps

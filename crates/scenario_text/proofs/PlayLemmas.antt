@@ -25,7 +25,7 @@ nothing_back : (state : State) (line : List ℕ) (form : Form) → IsNoWriters f
 unfolding given back_reasons
 nothing_back state line (Buffer kb policy) other = (refl, refl)
 nothing_back state line (Producer pages page_size chunks) other = (refl, refl)
-nothing_back state line (Writer producer buffer policy) other = (refl, refl)
+nothing_back state line (Writer producer buffer policy from) other = (refl, refl)
 nothing_back state line (OfWriter writer step) other = absurd other
 nothing_back state line (OfProducer producer step) other = (refl, refl)
 nothing_back state line (Read buffer limit) other = (refl, refl)
@@ -54,11 +54,11 @@ pub taken_producer : (state : State) (number : ℕ) (line : List ℕ) (pages pag
 unfolding moved
 taken_producer state number line pages page_size chunks none = taken_as_it_is state number line (Producer pages page_size chunks) tt none
 
-pub taken_writer : (state : State) (number : ℕ) (line : List ℕ) (producer buffer : Numeral) (policy : NamedPolicy)
-    → first (front_reasons state (Writer producer buffer policy)) ≡ None
-    → after_form state number line (Some (Writer producer buffer policy)) ≡ Ok (moved state 0 (Writer producer buffer policy) [])
+pub taken_writer : (state : State) (number : ℕ) (line : List ℕ) (producer buffer : Numeral) (policy : NamedPolicy) (from : Option Numeral)
+    → first (front_reasons state (Writer producer buffer policy from)) ≡ None
+    → after_form state number line (Some (Writer producer buffer policy from)) ≡ Ok (moved state 0 (Writer producer buffer policy from) [])
 unfolding moved
-taken_writer state number line producer buffer policy none = taken_as_it_is state number line (Writer producer buffer policy) tt none
+taken_writer state number line producer buffer policy from none = taken_as_it_is state number line (Writer producer buffer policy from) tt none
 
 pub taken_step : (state : State) (number : ℕ) (line : List ℕ) (producer : Numeral) (step : ProducerStep)
     → first (front_reasons state (OfProducer producer step)) ≡ None

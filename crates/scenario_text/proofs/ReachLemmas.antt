@@ -29,7 +29,7 @@ use Rattle.scenario_text.specs.Items.{item, with_item}
 use Rattle.scenario_text.specs.Ranges.{fits, value}
 use Rattle.scenario_text.specs.State.{State, beginning, is_closed}
 use Rattle.scenario_text.specs.Reasons.{front_reasons, back_reasons, refusal_of, given, is_limit, is_out_of_range, lacks_producer, lacks_buffer, lacks_writer, is_closed_for, has_closed_producer}
-use Rattle.scenario_text.specs.Effects.{policy_of, moved, nodes_given, written, served, with_line, with_packet, with_closed, with_bytes, writer_kind, producer_kind, limit_of, with_clone}
+use Rattle.scenario_text.specs.Effects.{policy_of, moved, nodes_given, written, served, with_line, with_packet, with_closed, with_bytes, writer_kind, producer_kind, limit_of, with_clone, first_id}
 use Rattle.scenario_text.specs.Scenario.{Parts, IsScenario}
 use Rattle.scenario_text.specs.Accepted.{closes, is_closed_by}
 use Rattle.scenario_text.specs.Reach.{NamesWriter, NamesProducer, NamesBuffer, ReadsBuffer, IsInReach, AreInReach}
@@ -400,8 +400,8 @@ moved_keeps state number (Producer pages page_size chunks) nodes pass reaching =
       known = λ other closed. pushed_at (nat_eq other 0) state.closed other (reaching.known other closed);
       each = λ before line after is. reach_producer state.buffers state.producers state.writers producer before line.what (reaching.each before line after is);
     }
-moved_keeps state number (Writer producer buffer policy) nodes pass reaching =
-    let writer : WriterSpec = record { producer = value producer; buffer = value buffer; policy = policy_of policy } in
+moved_keeps state number (Writer producer buffer policy from) nodes pass reaching =
+    let writer : WriterSpec = record { producer = value producer; buffer = value buffer; policy = policy_of policy; from = first_id from } in
     record {
       many = reaching.many;
       known = reaching.known;

@@ -96,7 +96,7 @@ counted_keeps : (state : State) (number : ℕ) (line : List ℕ) (form : Form) �
 unfolding moved with_clone
 counted_keeps state number line (Buffer kb policy) none counted = record { sum_is = counted.sum_is; most = counted.most }
 counted_keeps state number line (Producer pages page_size chunks) none counted = record { sum_is = counted.sum_is; most = counted.most }
-counted_keeps state number line (Writer producer buffer policy) none counted = record { sum_is = counted.sum_is; most = counted.most }
+counted_keeps state number line (Writer producer buffer policy from) none counted = record { sum_is = counted.sum_is; most = counted.most }
 counted_keeps state number line (OfWriter writer step) none counted = counted_writer state number line writer step none counted
 counted_keeps state number line (OfProducer producer step) none counted =
     counted_service (with_line state number (producer_kind (value producer) step)) producer step
@@ -120,7 +120,7 @@ moved_one : (state : State) (number : ℕ) (form : Form) (nodes : List Shown) �
 unfolding moved written with_line with_packet with_bytes with_clone
 moved_one state number (Buffer kb policy) nodes = omega arith
 moved_one state number (Producer pages page_size chunks) nodes = omega arith
-moved_one state number (Writer producer buffer policy) nodes = omega arith
+moved_one state number (Writer producer buffer policy from) nodes = omega arith
 moved_one state number (OfWriter writer step) nodes = push_one state.lines _
 moved_one state number (OfProducer producer step) nodes =
     subst (λ (lines : List NumberedLine). length lines ≤ length state.lines + 1)

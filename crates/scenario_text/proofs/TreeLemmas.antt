@@ -129,7 +129,7 @@ moved_trees : (state : State) (number : ℕ) (line : List ℕ) (form : Form) →
 unfolding moved given written with_line with_packet with_bytes with_clone
 moved_trees state number line (Buffer kb policy) all = all
 moved_trees state number line (Producer pages page_size chunks) all = all
-moved_trees state number line (Writer producer buffer policy) all = all
+moved_trees state number line (Writer producer buffer policy from) all = all
 moved_trees state number line (OfWriter writer step) all =
     one_more state.lines _ all (step_tree (state_words.nesting_of (packet_of state writer)) (value writer) line step)
 moved_trees state number line (OfProducer producer step) all =

@@ -49,6 +49,11 @@ policy_of Drops = policies.Drops
 policy_of Stalls = policies.Stalls
 policy_of (StallsThenDrops tries) = policies.StallsThenDrops (value tries)
 
+-- the id of a writer's first chunk: without a number, 0
+unfoldable pub first_id : Option Numeral → ℕ
+first_id None = 0
+first_id (Some from) = value from
+
 -- so many bytes longer, and so many messages inside one another deeper
 abbrev pub grown : OpenPacket → ℕ → ℕ → OpenPacket
 grown packet depth added = record packet { depth = packet.depth + depth; len = packet.len + added }
@@ -108,8 +113,8 @@ moved state line (Producer pages page_size chunks) nodes = record state {
   producers = state.producers ++ (record { pages = value pages; page_size = value page_size; chunks = value chunks }) ∷ [];
   closed = state.closed ++ false ∷ [];
 }
-moved state line (Writer producer buffer policy) nodes = record state {
-  writers = state.writers ++ (record { producer = value producer; buffer = value buffer; policy = policy_of policy }) ∷ [];
+moved state line (Writer producer buffer policy from) nodes = record state {
+  writers = state.writers ++ (record { producer = value producer; buffer = value buffer; policy = policy_of policy; from = first_id from }) ∷ [];
   packets = state.packets ++ None ∷ [];
 }
 moved state line (OfWriter writer step) nodes = written state line writer step nodes (step_len step nodes)
@@ -123,6 +128,11 @@ moved state line (CloneBuffer buffer) nodes = with_clone (with_line state line (
 abbrev pub TriesFit : NamedPolicy → Type 0
 TriesFit (StallsThenDrops tries) = value tries < 2 ^ 32
 TriesFit policy = Unit {0}
+
+-- the id of a first chunk has 32 bits
+abbrev pub IdFits : Option Numeral → Type 0
+IdFits (Some from) = value from < 2 ^ 32
+IdFits None = Unit {0}
 
 -- the field of an `n` line can be counted
 abbrev pub FieldFits : WriterStep → Type 0

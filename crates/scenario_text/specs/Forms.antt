@@ -1,5 +1,5 @@
 -- The forms of a line: what a scenario's table of lines has in its left column, up to a line's FIELDS.
-use Rattle.std.specs.Prelude.{ℕ, Bool, true, false, Option, Some, None, option_and_then, List, [], ◌∷◌, codes, take, drop, if◌then◌else◌}
+use Rattle.std.specs.Prelude.{ℕ, Bool, true, false, ◌&&◌, Option, Some, None, option_and_then, List, [], ◌∷◌, codes, take, drop, if◌then◌else◌}
 use Rattle.std.specs.Str.{bytes_eq}
 use Rattle.trace_base.specs.declared.policy.FullPolicy.TheVariants.{Ring, Discard}
 use Rattle.trace_base.specs.declared.numeral.Numeral.{Numeral}
@@ -68,31 +68,45 @@ unfoldable pub producer_form : List ℕ → List ℕ → List ℕ → Option For
 producer_form second third fourth =
     with_number (λ pages. with_number (λ page_size. with_number (λ chunks. Some (Producer pages page_size chunks)) fourth) third) second
 
--- `writer PRODUCER BUFFER drop`, `writer PRODUCER BUFFER stall`, `writer PRODUCER BUFFER stall:N`
-unfoldable pub policy_form : List ℕ → Numeral → Numeral → Option Form
-policy_form policy p b =
-    if is policy (codes "drop") then Some (Writer p b Drops)
-    else if is policy (codes "stall") then Some (Writer p b Stalls)
-    else if is (take 6 policy) (codes "stall:") then with_number (λ tries. Some (Writer p b (StallsThenDrops tries))) (drop 6 policy)
+-- `writer PRODUCER BUFFER drop`, `writer PRODUCER BUFFER stall`, `writer PRODUCER BUFFER stall:N`, with the id of the writer's first chunk
+-- or without it
+unfoldable pub policy_form : List ℕ → Numeral → Numeral → Option Numeral → Option Form
+policy_form policy p b from =
+    if is policy (codes "drop") then Some (Writer p b Drops from)
+    else if is policy (codes "stall") then Some (Writer p b Stalls from)
+    else if is (take 6 policy) (codes "stall:") then with_number (λ tries. Some (Writer p b (StallsThenDrops tries) from)) (drop 6 policy)
     else None
 
 -- the form of a writer's set-up line
-unfoldable pub writer_form : List ℕ → List ℕ → List ℕ → Option Form
-writer_form second third fourth = with_number (λ p. with_number (λ b. policy_form fourth p b) third) second
+unfoldable pub writer_form : List ℕ → List ℕ → List ℕ → Option Numeral → Option Form
+writer_form second third fourth from = with_number (λ p. with_number (λ b. policy_form fourth p b from) third) second
 
 -- the form of a line of four words
 unfoldable pub four_words : List ℕ → List ℕ → List ℕ → List ℕ → Option Form
 four_words word second third fourth =
     if is word (codes "producer") then producer_form second third fourth
-    else if is word (codes "writer") then writer_form second third fourth
+    else if is word (codes "writer") then writer_form second third fourth None
     else None
 
--- the other lines of three words and of four, by the words behind the second one
+-- the form of a line of six words: a writer's set-up line with ` from ID` behind it
+unfoldable pub six_words : List ℕ → List ℕ → List ℕ → List ℕ → List ℕ → List ℕ → Option Form
+six_words word second third fourth fifth sixth =
+    if is word (codes "writer") && is fifth (codes "from") then with_number (λ from. writer_form second third fourth (Some from)) sixth
+    else None
+
+-- the lines of more words than four, by those behind the fourth one
+unfoldable pub late_words : List ℕ → List ℕ → List ℕ → List ℕ → List (List ℕ) → Option Form
+late_words word second third fourth [] = None
+late_words word second third fourth (fifth ∷ []) = None
+late_words word second third fourth (fifth ∷ sixth ∷ []) = six_words word second third fourth fifth sixth
+late_words word second third fourth (fifth ∷ sixth ∷ seventh ∷ others) = None
+
+-- the other lines of three words and more, by the words behind the second one
 unfoldable pub more_words : List ℕ → List ℕ → List (List ℕ) → Option Form
 more_words word second [] = None
 more_words word second (third ∷ []) = three_words word second third
 more_words word second (third ∷ fourth ∷ []) = four_words word second third fourth
-more_words word second (third ∷ fourth ∷ fifth ∷ others) = None
+more_words word second (third ∷ fourth ∷ fifth ∷ others) = late_words word second third fourth (fifth ∷ others)
 
 -- `p W FIELDS` and `a W FIELDS`, whose words behind the second one are those of their FIELDS; or another line
 unfoldable pub long_form : List ℕ → List ℕ → List (List ℕ) → Option Form

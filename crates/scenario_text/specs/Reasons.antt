@@ -6,7 +6,7 @@ use Rattle.page_geometry.specs.Sizes.{payload_size, record_size}
 use Rattle.trace_base.specs.declared.numeral.Numeral.{Numeral}
 use Rattle.trace_base.specs.declared.numeral.Numeral.TheVariants.{Fits}
 use Rattle.scenario_text.specs.declared.form.Form.{Form}
-use Rattle.scenario_text.specs.declared.form.TheConstants.{MAX_CLONES, MAX_TRIES}
+use Rattle.scenario_text.specs.declared.form.TheConstants.{MAX_CHUNK_ID, MAX_CLONES, MAX_TRIES}
 use Rattle.scenario_text.specs.declared.form.NamedPolicy.{NamedPolicy}
 use Rattle.scenario_text.specs.declared.form.NamedPolicy.TheVariants.{StallsThenDrops}
 use Rattle.scenario_text.specs.declared.form.Form.TheVariants.{Buffer, Producer, Writer, OfWriter, OfProducer, Read, Request, CloneBuffer}
@@ -44,11 +44,16 @@ unfoldable pub are_tries : NamedPolicy → Bool
 are_tries (StallsThenDrops tries) = is_within 1 MAX_TRIES tries
 are_tries policy = true
 
+-- the id of a writer's first chunk is in its range, or its line names none
+unfoldable pub is_id : Option Numeral → Bool
+is_id None = true
+is_id (Some from) = is_within 0 MAX_CHUNK_ID from
+
 -- a number of the line, other than a reference, is outside its range, or any number before FIELDS doesn't fit
 unfoldable pub is_out_of_range : Form → Bool
 is_out_of_range (Buffer kb policy) = not (is_within MIN_BUFFER_KB MAX_BUFFER_KB kb)
 is_out_of_range (Producer pages page_size chunks) = not (is_producer_in_range pages page_size chunks)
-is_out_of_range (Writer producer buffer policy) = not (fits producer && fits buffer && are_tries policy)
+is_out_of_range (Writer producer buffer policy from) = not (fits producer && fits buffer && are_tries policy && is_id from)
 is_out_of_range (OfWriter writer step) = not (fits writer)
 is_out_of_range (OfProducer producer step) = not (fits producer)
 is_out_of_range (Read buffer limit) = not (fits buffer && is_limit limit)
@@ -60,7 +65,7 @@ is_out_of_range (CloneBuffer buffer) = not (fits buffer)
 unfoldable pub is_set_up : Form → Bool
 is_set_up (Buffer kb policy) = true
 is_set_up (Producer pages page_size chunks) = true
-is_set_up (Writer producer buffer policy) = true
+is_set_up (Writer producer buffer policy from) = true
 is_set_up form = false
 
 -- a set-up line behind a line of another kind
@@ -72,20 +77,20 @@ is_late state form = is_played state && is_set_up form
 unfoldable pub is_too_many : State → Form → Bool
 is_too_many state (Buffer kb policy) = nat_le MAX_BUFFERS (length state.buffers)
 is_too_many state (Producer pages page_size chunks) = nat_le MAX_PRODUCERS (length state.producers)
-is_too_many state (Writer producer buffer policy) = nat_le MAX_WRITERS (length state.writers)
+is_too_many state (Writer producer buffer policy from) = nat_le MAX_WRITERS (length state.writers)
 is_too_many state (CloneBuffer buffer) = nat_le MAX_CLONES state.clones
 is_too_many state form = false
 
 -- ---- a reference names none
 
 unfoldable pub lacks_producer : State → Form → Bool
-lacks_producer state (Writer producer buffer policy) = is_none (item state.producers producer)
+lacks_producer state (Writer producer buffer policy from) = is_none (item state.producers producer)
 lacks_producer state (OfProducer producer step) = is_none (item state.producers producer)
 lacks_producer state form = false
 
 -- the line names a buffer that there isn't
 unfoldable pub lacks_buffer : State → Form → Bool
-lacks_buffer state (Writer producer buffer policy) = is_none (item state.buffers buffer)
+lacks_buffer state (Writer producer buffer policy from) = is_none (item state.buffers buffer)
 lacks_buffer state (Read buffer limit) = is_none (item state.buffers buffer)
 lacks_buffer state (CloneBuffer buffer) = is_none (item state.buffers buffer)
 lacks_buffer state form = false
@@ -104,7 +109,7 @@ is_larger producer buffer = false
 
 -- a record of the writer's chunks is more than its buffer
 unfoldable pub has_larger_chunks : State → Form → Bool
-has_larger_chunks state (Writer producer buffer policy) = is_larger (item state.producers producer) (item state.buffers buffer)
+has_larger_chunks state (Writer producer buffer policy from) = is_larger (item state.producers producer) (item state.buffers buffer)
 has_larger_chunks state form = false
 
 -- ---- a line of a closed producer or of its writers

@@ -2,7 +2,7 @@
 ghost use Rattle.std.specs.Prelude.{◌≡◌, ◌+◌, ◌^◌, ◌<◌, ◌≤◌};
 ghost use Rattle.scenario_text.specs.Ranges.{value};
 ghost use Rattle.scenario_text.specs.State.{nesting_of, len_of};
-ghost use Rattle.scenario_text.specs.Effects.{limit_of, packet_after, policy_of, producer_kind, writer_kind, FieldFits, TriesFit};
+ghost use Rattle.scenario_text.specs.Effects.{limit_of, packet_after, policy_of, producer_kind, writer_kind, FieldFits, TriesFit, first_id, IdFits};
 
 use crate::form::{NamedPolicy, ProducerStep, WriterStep};
 use crate::open_packet::OpenPacket;
@@ -46,6 +46,18 @@ pub fn policy_of(policy: NamedPolicy) -> WriterPolicy
         NamedPolicy::StallsThenDrops { tries } => WriterPolicy::StallsThenDrops {
             tries: small(tries),
         },
+    }
+}
+
+/// The id of a writer's first chunk.
+#[tactic(auto, unfolding(crate::specs::Effects::first_id))]
+pub fn first_id(from: Option<Numeral>) -> u32
+    requires { IdFits from }
+    ensures { result ≡ first_id from }
+{
+    match from {
+        None => 0,
+        Some(from) => small(from),
     }
 }
 

@@ -6,6 +6,9 @@ use trace_base::policy::FullPolicy;
 /// A writer asks its helper at most this many times for one chunk.
 pub const MAX_TRIES: u32 = 1_000_000;
 
+/// The id of a writer's first chunk is at most this.
+pub const MAX_CHUNK_ID: u32 = 4_294_967_295;
+
 /// A scenario has at most this many lines `k`.
 pub const MAX_CLONES: u8 = 4;
 
@@ -23,11 +26,13 @@ pub enum Form {
         page_size: Numeral,
         chunks: Numeral,
     },
-    /// `writer PRODUCER BUFFER drop`, `writer PRODUCER BUFFER stall`, `writer PRODUCER BUFFER stall:N`
+    /// `writer PRODUCER BUFFER drop`, `writer PRODUCER BUFFER stall`, `writer PRODUCER BUFFER
+    /// stall:N`, and each of these with ` from ID` behind it
     Writer {
         producer: Numeral,
         buffer: Numeral,
         policy: NamedPolicy,
+        from: Option<Numeral>,
     },
     OfWriter {
         writer: Numeral,

@@ -1,6 +1,6 @@
 //! Lines of each form, once no reason of the front holds.
 
-use crate::effects::{limit, packet_after, policy_of, producer_kind, small, writer_kind};
+use crate::effects::{first_id, limit, packet_after, policy_of, producer_kind, small, writer_kind};
 use crate::fields::{Addition, read_addition};
 use crate::form::{Form, NamedPolicy, ProducerStep, WriterStep};
 use crate::items::put_item;
@@ -62,21 +62,23 @@ impl Reader {
         Ok(())
     }
 
-    #[tactic(auto, using(crate::proofs::FrontLemmas::room_for_writer, crate::proofs::FrontLemmas::producer_of_writer, crate::proofs::FrontLemmas::buffer_of_writer, crate::proofs::FrontLemmas::tries_of_writer, crate::proofs::SoundLemmas::all_push), unfolding(crate::specs::Effects::moved, crate::specs::Sound::is_shallow))]
+    #[tactic(auto, using(crate::proofs::FrontLemmas::room_for_writer, crate::proofs::FrontLemmas::producer_of_writer, crate::proofs::FrontLemmas::buffer_of_writer, crate::proofs::FrontLemmas::tries_of_writer, crate::proofs::FrontLemmas::id_of_writer, crate::proofs::SoundLemmas::all_push), unfolding(crate::specs::Effects::moved, crate::specs::Sound::is_shallow))]
     fn add_writer(
         &mut self,
         producer: Numeral,
         buffer: Numeral,
         policy: NamedPolicy,
+        from: Option<Numeral>,
     ) -> Result<(), LineFault>
-        requires { first (front_reasons (state_of self.old) (Writer producer buffer policy)) ≡ None }
-        ensures ok { OnOk result (state_of self.new ≡ moved (state_of self.old) 0 (Writer producer buffer policy) []) }
+        requires { first (front_reasons (state_of self.old) (Writer producer buffer policy from)) ≡ None }
+        ensures ok { OnOk result (state_of self.new ≡ moved (state_of self.old) 0 (Writer producer buffer policy from) []) }
         ensures memory { IsOkUnless result OutOfMemory }
     {
         let spec = WriterSpec {
             producer: small(producer) as u16,
             buffer: small(buffer) as u8,
             policy: policy_of(policy),
+            from: first_id(from),
         };
         self.scenario.writers.push(spec)?;
         self.packets.push(None)?;
@@ -237,7 +239,8 @@ impl Reader {
                 producer,
                 buffer,
                 policy,
-            } => self.add_writer(producer, buffer, policy),
+                from,
+            } => self.add_writer(producer, buffer, policy, from),
             Form::OfWriter { writer, step } => {
                 self.write(parser, number, line, fields, writer, step)
             }

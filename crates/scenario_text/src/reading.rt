@@ -1,7 +1,7 @@
 //! Reading the form of a line.
 ghost use Rattle.std.specs.Prelude.{◌≡◌};
 ghost use Rattle.scenario_text.specs.Pieces.{fields_part, pieces};
-ghost use Rattle.scenario_text.specs.Forms.{buffer_form, form_of, four_words, long_form, more_words, one_word, policy_form, producer_form, service_form, short_form, three_words, two_words, writer_form};
+ghost use Rattle.scenario_text.specs.Forms.{buffer_form, form_of, four_words, long_form, more_words, one_word, policy_form, producer_form, service_form, short_form, three_words, two_words, writer_form, six_words, late_words};
 
 use crate::form::{Form, NamedPolicy, ProducerStep, WriterStep};
 use crate::pieces::next_piece;
@@ -111,8 +111,13 @@ fn producer_form(second: &[u8], third: &[u8], fourth: &[u8]) -> Option<Form>
 }
 
 #[tactic(auto, unfolding(crate::specs::Forms::policy_form, crate::specs::Forms::with_number))]
-fn policy_form(policy: &[u8], producer: Numeral, buffer: Numeral) -> Option<Form>
-    ensures { result ≡ policy_form policy.now producer buffer }
+fn policy_form(
+    policy: &[u8],
+    producer: Numeral,
+    buffer: Numeral,
+    from: Option<Numeral>,
+) -> Option<Form>
+    ensures { result ≡ policy_form policy.now producer buffer from }
 {
     let policy = match policy {
         b"drop" => NamedPolicy::Drops,
@@ -125,14 +130,15 @@ fn policy_form(policy: &[u8], producer: Numeral, buffer: Numeral) -> Option<Form
         producer,
         buffer,
         policy,
+        from,
     })
 }
 
 #[tactic(auto, unfolding(crate::specs::Forms::writer_form, crate::specs::Forms::with_number))]
-fn writer_form(second: &[u8], third: &[u8], fourth: &[u8]) -> Option<Form>
-    ensures { result ≡ writer_form second.now third.now fourth.now }
+fn writer_form(second: &[u8], third: &[u8], fourth: &[u8], from: Option<Numeral>) -> Option<Form>
+    ensures { result ≡ writer_form second.now third.now fourth.now from }
 {
-    policy_form(fourth, numeral(second)?, numeral(third)?)
+    policy_form(fourth, numeral(second)?, numeral(third)?, from)
 }
 
 #[tactic(auto, unfolding(crate::specs::Forms::four_words))]
@@ -142,13 +148,52 @@ fn four_words(word: &[u8], second: &[u8], third: &[u8], fourth: &[u8]) -> Option
     if word == b"producer".as_slice() {
         producer_form(second, third, fourth)
     } else if word == b"writer".as_slice() {
-        writer_form(second, third, fourth)
+        writer_form(second, third, fourth, None)
     } else {
         None
     }
 }
 
-/// The lines of three words and of four, by what stands behind the second one.
+#[tactic(auto, unfolding(crate::specs::Forms::six_words, crate::specs::Forms::with_number))]
+fn six_words(
+    word: &[u8],
+    second: &[u8],
+    third: &[u8],
+    fourth: &[u8],
+    fifth: &[u8],
+    sixth: &[u8],
+) -> Option<Form>
+    ensures { result ≡ six_words word.now second.now third.now fourth.now fifth.now sixth.now }
+{
+    if word == b"writer".as_slice() && fifth == b"from".as_slice() {
+        let from = numeral(sixth)?;
+        writer_form(second, third, fourth, Some(from))
+    } else {
+        None
+    }
+}
+
+/// The lines of more words than four, by what stands behind the fourth one.
+#[tactic(auto, using(crate::proofs::PieceLemmas::pieces_behind_some, crate::proofs::FormLemmas::no_sixth_word, crate::proofs::FormLemmas::sixth_word, crate::proofs::FormLemmas::seventh_word))]
+fn late_words(
+    word: &[u8],
+    second: &[u8],
+    third: &[u8],
+    fourth: &[u8],
+    behind: &[u8],
+) -> Option<Form>
+    ensures { result ≡ late_words word.now second.now third.now fourth.now (pieces 32 behind.now) }
+{
+    let (fifth, more) = next_piece(behind, b' ');
+    let behind_fifth = more?;
+    let (sixth, more) = next_piece(behind_fifth, b' ');
+    match more {
+        None => six_words(word, second, third, fourth, fifth, sixth),
+        Some(_more) => None,
+    }
+}
+
+/// The other lines of three words and more, by what stands behind the second one.
 #[tactic(auto, using(crate::proofs::PieceLemmas::pieces_behind_some, crate::proofs::FormLemmas::third_word, crate::proofs::FormLemmas::fourth_word, crate::proofs::FormLemmas::fifth_word))]
 fn more_words(word: &[u8], second: &[u8], behind: &[u8]) -> Option<Form>
     ensures { result ≡ more_words word.now second.now (pieces 32 behind.now) }
@@ -160,7 +205,7 @@ fn more_words(word: &[u8], second: &[u8], behind: &[u8]) -> Option<Form>
     let (fourth, more) = next_piece(behind_third, b' ');
     match more {
         None => four_words(word, second, third, fourth),
-        Some(_more) => None,
+        Some(behind_fourth) => late_words(word, second, third, fourth, behind_fourth),
     }
 }
 

@@ -5,9 +5,9 @@ ghost use Rattle.page_geometry.specs.Sizes.{payload_size, record_size};
 ghost use Rattle.scenario_text.specs.Ranges.{fits, is_within, is_page_size, is_chunk_count};
 ghost use Rattle.scenario_text.specs.Sound.{is_cut};
 ghost use Rattle.scenario_text.specs.State.{nesting_of, len_of};
-ghost use Rattle.scenario_text.specs.Reasons.{are_tries, is_limit, is_out_of_range, is_producer_in_range, is_set_up, wants_none, is_larger};
+ghost use Rattle.scenario_text.specs.Reasons.{are_tries, is_limit, is_out_of_range, is_producer_in_range, is_set_up, wants_none, is_larger, is_id};
 
-use crate::form::{Form, MAX_CLONES, MAX_TRIES, NamedPolicy, WriterStep};
+use crate::form::{Form, MAX_CHUNK_ID, MAX_CLONES, MAX_TRIES, NamedPolicy, WriterStep};
 use crate::items::item;
 use crate::open_packet::OpenPacket;
 use crate::reader::Reader;
@@ -90,6 +90,16 @@ fn are_tries(policy: NamedPolicy) -> bool
     }
 }
 
+#[tactic(auto, unfolding(crate::specs::Reasons::is_id))]
+fn is_id(from: Option<Numeral>) -> bool
+    ensures { result ≡ is_id from }
+{
+    match from {
+        None => true,
+        Some(from) => is_within(0, u64::from(MAX_CHUNK_ID), from),
+    }
+}
+
 #[tactic(auto, unfolding(crate::specs::Reasons::is_out_of_range))]
 fn is_out_of_range(form: Form) -> bool
     ensures { result ≡ is_out_of_range form }
@@ -107,7 +117,8 @@ fn is_out_of_range(form: Form) -> bool
             producer,
             buffer,
             policy,
-        } => !(fits(producer) && fits(buffer) && are_tries(policy)),
+            from,
+        } => !(fits(producer) && fits(buffer) && are_tries(policy) && is_id(from)),
         Form::OfWriter { writer, step: _ } => !fits(writer),
         Form::OfProducer { producer, step: _ } => !fits(producer),
         Form::Read { buffer, limit } => !(fits(buffer) && is_limit(limit)),

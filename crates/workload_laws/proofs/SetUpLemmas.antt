@@ -16,8 +16,8 @@ use Rattle.scenario_text.specs.Forms.{with_number, three_words, four_words, buff
 use Rattle.scenario_text.specs.Items.{item}
 use Rattle.scenario_text.specs.Ranges.{fits, value, is_within, is_page_size, is_chunk_count}
 use Rattle.scenario_text.specs.State.{State, beginning}
-use Rattle.scenario_text.specs.Reasons.{refusal_of, front_reasons, back_reasons, given, len_before, are_tries, is_out_of_range, is_producer_in_range, is_late, is_set_up, is_too_many, lacks_producer, lacks_buffer, lacks_writer, is_larger, has_larger_chunks, has_closed_producer, meets_packet, lacks_packet, lacks_nesting, leaves_nesting}
-use Rattle.scenario_text.specs.Effects.{policy_of, moved, nodes_given}
+use Rattle.scenario_text.specs.Reasons.{refusal_of, front_reasons, back_reasons, given, len_before, are_tries, is_out_of_range, is_producer_in_range, is_late, is_set_up, is_too_many, lacks_producer, lacks_buffer, lacks_writer, is_larger, has_larger_chunks, has_closed_producer, meets_packet, lacks_packet, lacks_nesting, leaves_nesting, is_id}
+use Rattle.scenario_text.specs.Effects.{policy_of, moved, nodes_given, first_id}
 use Rattle.scenario_text.specs.Grammar.{says_nothing, unless, after_form, after_line}
 use Rattle.workload_gen.specs.Workload.{repeated, set_up_lines}
 use Rattle.workload_laws.specs.Asked.{buffer_asked, producer_asked, writer_asked}
@@ -85,12 +85,12 @@ front_leads =
 
 -- ---- the writers
 
-writer_is : form_of (codes "writer 1 1 stall") ≡ Some (Writer (Fits 1) (Fits 1) Stalls)
+writer_is : form_of (codes "writer 1 1 stall") ≡ Some (Writer (Fits 1) (Fits 1) Stalls None)
 unfolding form_of_words long_form more_words four_words with_number writer_form policy_form numeral_of number_of value_from sized_value sized
 writer_is = refl
 
-writer_passes : (writers : ℕ) → writers < MAX_WRITERS → refusal_of (set_up writers) (codes "writer 1 1 stall") (Writer (Fits 1) (Fits 1) Stalls) ≡ None
-unfolding refusal_of front_reasons back_reasons given len_before is_out_of_range are_tries fits is_late is_set_up is_too_many lacks_producer lacks_buffer lacks_writer item is_larger has_larger_chunks payload_size chunk_size has_closed_producer meets_packet lacks_packet lacks_nesting leaves_nesting
+writer_passes : (writers : ℕ) → writers < MAX_WRITERS → refusal_of (set_up writers) (codes "writer 1 1 stall") (Writer (Fits 1) (Fits 1) Stalls None) ≡ None
+unfolding refusal_of front_reasons back_reasons given len_before is_out_of_range are_tries is_id fits is_late is_set_up is_too_many lacks_producer lacks_buffer lacks_writer item is_larger has_larger_chunks payload_size chunk_size has_closed_producer meets_packet lacks_packet lacks_nesting leaves_nesting
 writer_passes writers few =
     let room : nat_le MAX_WRITERS (length (replicate writers writer_asked)) ≡ false =
     lt-leb MAX_WRITERS (length (replicate writers writer_asked)) (omega (arith, length-replicate writers writer_asked)) in
@@ -99,8 +99,8 @@ writer_passes writers few =
 replicate_push : {X : Type 0} (n : ℕ) (x : X) → replicate n x ++ x ∷ [] ≡ replicate (suc n) x
 replicate_push n x = replicate_more n x ∙ ap (λ (m : ℕ). replicate m x) (add-one n)
 
-one_more : (writers : ℕ) → moved (set_up writers) (writers + 3) (Writer (Fits 1) (Fits 1) Stalls) [] ≡ set_up (suc writers)
-unfolding moved policy_of value
+one_more : (writers : ℕ) → moved (set_up writers) (writers + 3) (Writer (Fits 1) (Fits 1) Stalls None) [] ≡ set_up (suc writers)
+unfolding moved policy_of first_id value
 one_more writers =
     let specs = replicate_push writers writer_asked in
     let packets : none_begun writers ++ None ∷ [] ≡ none_begun (suc writers) = replicate_push writers None in
@@ -109,7 +109,7 @@ one_more writers =
 writer_leads : (writers : ℕ) → writers < MAX_WRITERS → after_line (set_up writers) (writers + 3) (codes "writer 1 1 stall") ≡ Ok (set_up (suc writers))
 unfolding says_nothing given
 writer_leads writers few =
-    accepted (set_up writers) (writers + 3) (codes "writer 1 1 stall") (Writer (Fits 1) (Fits 1) Stalls) refl writer_is (writer_passes writers few)
+    accepted (set_up writers) (writers + 3) (codes "writer 1 1 stall") (Writer (Fits 1) (Fits 1) Stalls None) refl writer_is (writer_passes writers few)
     ∙ ap (λ (after : State). Ok after) (one_more writers)
 
 writers_lead : (writers : ℕ) → writers ≤ MAX_WRITERS → Leads (set_up 0) 3 (repeated writers (codes "writer 1 1 stall\n")) (set_up writers) (writers + 3)

@@ -25,7 +25,7 @@ producer_asked = record { pages = 16; page_size = 4096; chunks = 14 }
 
 -- each writer: one that waits for a free chunk
 abbrev pub writer_asked : WriterSpec
-writer_asked = record { producer = 1; buffer = 1; policy = Stalls }
+writer_asked = record { producer = 1; buffer = 1; policy = Stalls; from = 0 }
 
 -- ---- the packets, counted from 0 over all writers
 
