@@ -10,6 +10,7 @@ pub const MAX_PATCHES: usize = MAX_OPEN_HOLES;
 /// message.
 #[derive(Clone, Copy, Debug, Default, PartialEq, Eq)]
 pub struct Patch {
+    /// In a body the chunk's id, and before it is sent the chunk's position.
     pub chunk_id: u32,
     /// Where the bytes stand in the chunk's payload.
     pub offset: u32,

@@ -1,7 +1,7 @@
 //! Lengths that aren't known yet.
 
-/// The four bytes of a nested length whose message goes on: its chunk, and where it stands in that
-/// chunk's payload.
+/// The four bytes of a nested length whose message goes on: its chunk, by the position, and where it
+/// stands in that chunk's payload.
 #[derive(Clone, Copy, Debug, Default, PartialEq, Eq)]
 pub struct Hole {
     pub chunk_id: u32,

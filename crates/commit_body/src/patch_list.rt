@@ -3,6 +3,7 @@ ghost use Rattle.std.specs.Prelude.{◌≡◌, ℕ, ◌+◌, ◌^◌, ◌<◌, �
 ghost use Rattle.std.specs.List.{list_any};
 ghost use Rattle.trace_model.specs.Sequences.{is_among};
 ghost use Rattle.trace_model.specs.Sent.{is_last_patch, LastsAre};
+ghost use Rattle.trace_model.specs.Ids.{placed_patches};
 ghost use Rattle.commit_body.specs.Patches.{patch_value, hole_chunks, holes_outside, with_lasts};
 
 use crate::body::{CommitBody, MAX_PATCHES, Patch};
@@ -10,10 +11,12 @@ use crate::closed::Closed;
 use crate::hole::Hole;
 use arrayvec::ArrayVec;
 use std::marker::Model;
+use trace_base::ids::id_of;
 use trace_base::limits::MAX_OPEN_HOLES;
 use wire_varint::put_redundant;
 
-/// The holes of one writer that are open, and the patches of closed ones that were not sent yet.
+/// The holes of one writer that are open, and the patches of closed ones that were not sent yet. Both
+/// name the writer's chunks by their positions.
 #[derive(Debug, Drop)]
 pub struct PatchList {
     /// Each inside the messages of those before it.
@@ -81,15 +84,17 @@ impl PatchList {
     }
 
     #[tactic(auto, using(crate::proofs::PatchLemmas::with_lasts_are))]
-    /// Moves the unsent patches to a body, which goes with the writer's next completed chunk.
-    pub fn drain_into(&mut self, body: &mut CommitBody)
+    /// Moves the unsent patches to a body, which goes with the writer's next completed chunk. The list
+    /// names chunks by their positions; in the body they have ids, of which the first is `from`.
+    pub fn drain_into(&mut self, body: &mut CommitBody, from: u32)
         requires { body.old.patches.value.items ≡ [] }
-        ensures sent { map patch_value body.new.patches.value.items ≡ with_lasts (hole_chunks self.old.holes) self.old.unsent }
-        ensures lasts { LastsAre (hole_chunks self.old.holes) (map patch_value body.new.patches.value.items) }
+        ensures sent { placed_patches from (map patch_value body.new.patches.value.items)
+            ≡ with_lasts (hole_chunks self.old.holes) self.old.unsent }
+        ensures lasts { LastsAre (hole_chunks self.old.holes) (placed_patches from (map patch_value body.new.patches.value.items)) }
         ensures unsent { self.new ≡ record self.old { unsent = [] } }
         ensures others { body.new ≡ record body.old { patches = body.new.patches } }
     {
-        *body.patches = marked(&self.unsent, &self.holes);
+        *body.patches = marked(&self.unsent, &self.holes, from);
         self.unsent.clear();
     }
 
@@ -140,17 +145,21 @@ fn is_last(patch: &Patch, later: &[Patch], holes: &[Hole]) -> bool
     !(has_patch(later, patch.chunk_id) || has_hole(holes, patch.chunk_id))
 }
 
-/// The patches with their marks `last`.
+/// The patches as they are sent: with their marks `last`, and for chunks that are named by ids.
 #[tactic(auto, using(crate::proofs::PatchLemmas::with_lasts_step))]
-fn marked(unsent: &[Patch], holes: &[Hole]) -> ArrayVec<Patch, MAX_PATCHES>
+fn marked(unsent: &[Patch], holes: &[Hole], from: u32) -> ArrayVec<Patch, MAX_PATCHES>
     requires { length unsent.now ≤ MAX_PATCHES }
-    ensures { map patch_value result.items ≡ with_lasts (hole_chunks holes.now) (map patch_value unsent.now) }
+    ensures { placed_patches from (map patch_value result.items) ≡ with_lasts (hole_chunks holes.now) (map patch_value unsent.now) }
 {
     let mut marked = ArrayVec::new();
     let mut rest = unsent;
     while let Some((patch, later)) = rest.split_first() {
         let last = is_last(patch, later, holes);
-        marked.push(Patch { last, ..*patch });
+        marked.push(Patch {
+            chunk_id: id_of(from, patch.chunk_id),
+            last,
+            ..*patch
+        });
         rest = later;
     }
     marked
