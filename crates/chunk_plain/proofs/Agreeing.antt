@@ -1,4 +1,4 @@
--- Looks that found a chunk of the same writer and id found the same of it: the chunk has what each found.
+-- Looks that found a chunk of the same writer and position found the same of it: the chunk has what each found.
 use Rattle.std.proofs.Common.{◌≡◌, ◌∙◌, ℕ, Some, length, sym, arith}
 use Rattle.std.proofs.Math.Logic.{∥∥₁_elim}
 use Rattle.std.proofs.Math.Nat.{ℕ_set}
@@ -40,9 +40,9 @@ alike about next (Completed chunk content) one other is also many has had =
     }
 
 pub found_alike : (view : ServiceView) → LooksAgree view → (n m : ℕ) (look later : Look) (found other : Found) → At view.looks n look → look.found ≡ Some found → At view.looks m later
-    → later.found ≡ Some other → found.place ≡ other.place → found.id ≡ other.id → length found.ends ≡ length other.ends → FoundAlike found other
-found_alike view agree n m look later found other at is then was place id many =
-    let both = agree n m look later found other at is then was place id in
+    → later.found ≡ Some other → found.place ≡ other.place → found.position ≡ other.position → length found.ends ≡ length other.ends → FoundAlike found other
+found_alike view agree n m look later found other at is then was place position many =
+    let both = agree n m look later found other at is then was place position in
     let same : HasBoth look.chunk found later.chunk other → FoundAlike found other = λ h. alike look.chunk later.chunk h.entry found other h.found_is h.other_is many h.has h.had in
     record {
       sealed = ∥∥₁_elim both (hlevel (ℕ_set, list_set)) (λ h. (same h).sealed);

@@ -62,7 +62,7 @@ claim_won setup words slots world place chunk found new laid kept inside_w insid
     let next = world_after world (Claim place chunk found true) in
     let now : status next chunk ≡ Claimed place = get_or-set_same world.chunks chunk (Claimed place) Unclaimed c_inside in
     let ask : Ask = record { chunk = chunk; found = found; won = true; calls = length v.calls } in
-    let before : ShowsSlot at.payload_size Unclaimed (stored_at slots chunk) = subst (λ t. ShowsSlot at.payload_size t (stored_at slots chunk)) free (shown.slot chunk inside_c) in
+    let before : ShowsSlot setup at.payload_size Unclaimed (stored_at slots chunk) = subst (λ t. ShowsSlot setup at.payload_size t (stored_at slots chunk)) free (shown.slot chunk inside_c) in
     record {
       shown = shown_page_only setup words slots world next chunk new laid shown inside_c
           (length-set world.chunks chunk (Claimed place))
@@ -73,7 +73,7 @@ claim_won setup words slots world place chunk found new laid kept inside_w insid
           (subst (λ t. ShowsPage setup next at new t) (sym now)
           (claims_page setup world next at found new (status world chunk) (Claimed place) (laid.place chunk inside_c) (laid.chunks chunk inside_c) step (ap state_of (sym free)) refl page))
           (subst (λ t. ShowsHeader setup (header_word setup words chunk) t) (sym now) tt)
-          (subst (λ t. ShowsSlot at.payload_size t (stored_at slots chunk)) (sym now) (record { room = before.room; words = tt; body = before.body }));
+          (subst (λ t. ShowsSlot setup at.payload_size t (stored_at slots chunk)) (sym now) (record { room = before.room; words = tt; body = before.body }));
       owned = claims_owned world place chunk found kept.owned w_inside c_inside free;
       writers = length-set world.writers place (claims v chunk found true) ∙ kept.writers;
     }

@@ -5,7 +5,7 @@ use Rattle.trace_model.specs.Calls as call
 use Rattle.page_geometry.specs.PageBits.{HasState, SetsState, KeepsOthers}
 use Rattle.page_geometry.specs.declared.chunk_state.ChunkState.TheVariants as state
 use Rattle.commit_body.specs.declared.body.CommitBody.{CommitBody}
-use Rattle.chunk_plain.specs.Setup.{Setup, spot, IsLaid}
+use Rattle.chunk_plain.specs.Setup.{Setup, spot, IsLaid, from_of}
 use Rattle.chunk_plain.specs.Payload.{byte_at, sealed_to, HasFragments}
 use Rattle.chunk_plain.specs.Views.{Head, no_head, fresh, Letters, WriterView}
 use Rattle.chunk_plain.specs.World.{World, Status, Unclaimed, Claimed, Stamped, Writing, Ready, Reading, status, writer}
@@ -42,7 +42,7 @@ pub body_of_claimed : (setup : Setup) (words : List ℕ) (slots : List Stored) (
 body_of_claimed setup words slots world place chunk kept mine =
     let was = claimed_by world place chunk kept.owned mine in
     let inside : chunk < length setup.spots = is_chunk setup world chunk kept.shown.chunk_count (λ free. absurd cc) in
-    let slot : ShowsSlot (spot setup chunk).payload_size (Claimed place) (stored_at slots chunk) = subst (λ t. ShowsSlot (spot setup chunk).payload_size t (stored_at slots chunk)) was (kept.shown.slot chunk inside) in
+    let slot : ShowsSlot setup (spot setup chunk).payload_size (Claimed place) (stored_at slots chunk) = subst (λ t. ShowsSlot setup (spot setup chunk).payload_size t (stored_at slots chunk)) was (kept.shown.slot chunk inside) in
     slot.body
 
 -- ---- the two steps of begin
@@ -61,20 +61,20 @@ stamp_kept setup words slots world place chunk header laid kept inside_w inside_
     let next = moved world place view chunk is in
     let now : status next chunk ≡ is = get_or-set_same world.chunks chunk is Unclaimed c_inside in
     let never : (number : ℕ) → NeverAsked setup world number → NeverAsked setup next number = never_same setup world place view next.chunks world.service w_inside refl in
-    let slot : ShowsSlot at.payload_size (Claimed place) (stored_at slots chunk) = subst (λ t. ShowsSlot at.payload_size t (stored_at slots chunk)) was (shown.slot chunk inside_c) in
+    let slot : ShowsSlot setup at.payload_size (Claimed place) (stored_at slots chunk) = subst (λ t. ShowsSlot setup at.payload_size t (stored_at slots chunk)) was (shown.slot chunk inside_c) in
     record {
       shown = shown_header setup words slots world next chunk header laid shown inside_c (length-set world.chunks chunk is)
           (λ other differs. get_or-set_other world.chunks chunk other is Unclaimed differs) (λ number _. never number)
           (subst (λ t. ShowsPage setup next at (page_word setup words chunk) t) (sym now) (same_page setup world next at (page_word setup words chunk) (status world chunk) is (sym (ap state_of was)) (sym (ap claim_of was)) (never at.page) (shown.page chunk inside_c)))
           (subst (λ t. ShowsHeader setup header t) (sym now) is_header)
-          (subst (λ t. ShowsSlot at.payload_size t (stored_at slots chunk)) (sym now) (record { room = slot.room; words = tt; body = slot.body }));
+          (subst (λ t. ShowsSlot setup at.payload_size t (stored_at slots chunk)) (sym now) (record { room = slot.room; words = tt; body = slot.body }));
       owned = stamps_owned world place chunk kept.owned w_inside c_inside mine unstamped;
       writers = length-set world.writers place view ∙ kept.writers;
     }
 
 pub begin_kept : (setup : Setup) (words : List ℕ) (slots : List Stored) (world : World) (place chunk new : ℕ)
     → IsLaid setup → IsKept setup words slots world → place < length setup.writers → chunk < length setup.spots
-    → (writer world place).stamped ≡ Some (record { chunk = chunk; id = length (writer world place).begun })
+    → (writer world place).stamped ≡ Some (record { chunk = chunk; position = length (writer world place).begun })
     → (HasState (page_word setup words chunk) (spot setup chunk).place state.Free → SetsState (page_word setup words chunk) new (spot setup chunk).place state.BeingWritten)
     → KeepsOthers (page_word setup words chunk) new (spot setup chunk).place
     → IsKept setup (set words (spot setup chunk).page new) slots
@@ -91,35 +91,35 @@ begin_kept setup words slots world place chunk new laid kept inside_w inside_c s
     let never : (number : ℕ) → NeverAsked setup world number → NeverAsked setup next number = never_same setup world place view next.chunks world.service w_inside refl in
     let page : ShowsPage setup world at (page_word setup words chunk) (Stamped place n) = subst (λ t. ShowsPage setup world at (page_word setup words chunk) t) was (shown.page chunk inside_c) in
     let header : IsHeader setup (header_word setup words chunk) place n no_head = subst (λ t. ShowsHeader setup (header_word setup words chunk) t) was (shown.header chunk inside_c) in
-    let slot : ShowsSlot at.payload_size (Stamped place n) (stored_at slots chunk) = subst (λ t. ShowsSlot at.payload_size t (stored_at slots chunk)) was (shown.slot chunk inside_c) in
+    let slot : ShowsSlot setup at.payload_size (Stamped place n) (stored_at slots chunk) = subst (λ t. ShowsSlot setup at.payload_size t (stored_at slots chunk)) was (shown.slot chunk inside_c) in
     record {
       shown = shown_page_only setup words slots world next chunk new laid shown inside_c (length-set world.chunks chunk is)
           (λ other differs. get_or-set_other world.chunks chunk other is Unclaimed differs) (λ number _. never number)
           keeps
           (subst (λ t. ShowsPage setup next at new t) (sym now) (sets_page setup world next at (page_word setup words chunk) new (Stamped place n) is (laid.place chunk inside_c) (laid.chunks chunk inside_c) (sets page.state) refl (never at.page) page))
           (subst (λ t. ShowsHeader setup (header_word setup words chunk) t) (sym now) header)
-          (subst (λ t. ShowsSlot at.payload_size t (stored_at slots chunk)) (sym now) (record { room = slot.room; words = (refl, omega arith); body = tt }));
+          (subst (λ t. ShowsSlot setup at.payload_size t (stored_at slots chunk)) (sym now) (record { room = slot.room; words = (refl, omega arith); body = tt }));
       owned = begins_owned world place chunk payload kept.owned w_inside c_inside stamped;
       writers = length-set world.writers place view ∙ kept.writers;
     }
 
 -- ---- a body that goes out or comes back
 
-lent_slot : (size : ℕ) (is : Status) (slot : Stored) (body : Option CommitBody) → IsLent is → ShowsSlot size is slot → ShowsSlot size is (record slot { body = body })
-lent_slot size Unclaimed slot body lent was = absurd lent
-lent_slot size (Claimed place) slot body lent was = absurd lent
-lent_slot size (Stamped place id) slot body lent was = absurd lent
-lent_slot size (Writing place id draft) slot body lent was = record { room = was.room; words = was.words; body = tt }
-lent_slot size (Ready place id content) slot body lent was = absurd lent
-lent_slot size (Reading place id content) slot body lent was = record { room = was.room; words = was.words; body = tt }
+lent_slot : (setup : Setup) (size : ℕ) (is : Status) (slot : Stored) (body : Option CommitBody) → IsLent is → ShowsSlot setup size is slot → ShowsSlot setup size is (record slot { body = body })
+lent_slot setup size Unclaimed slot body lent was = absurd lent
+lent_slot setup size (Claimed place) slot body lent was = absurd lent
+lent_slot setup size (Stamped place position) slot body lent was = absurd lent
+lent_slot setup size (Writing place position draft) slot body lent was = record { room = was.room; words = was.words; body = tt }
+lent_slot setup size (Ready place position content) slot body lent was = absurd lent
+lent_slot setup size (Reading place position content) slot body lent was = record { room = was.room; words = was.words; body = tt }
 
 lent_chunk : (is : Status) → IsLent is → is ≡ Unclaimed → ⊥
 lent_chunk Unclaimed lent free = lent
 lent_chunk (Claimed place) lent free = absurd cc
-lent_chunk (Stamped place id) lent free = absurd cc
-lent_chunk (Writing place id draft) lent free = absurd cc
-lent_chunk (Ready place id content) lent free = absurd cc
-lent_chunk (Reading place id content) lent free = absurd cc
+lent_chunk (Stamped place position) lent free = absurd cc
+lent_chunk (Writing place position draft) lent free = absurd cc
+lent_chunk (Ready place position content) lent free = absurd cc
+lent_chunk (Reading place position content) lent free = absurd cc
 
 pub lent_inside : (setup : Setup) (words : List ℕ) (slots : List Stored) (world : World) (chunk : ℕ) → IsKept setup words slots world → IsLent (status world chunk) → chunk < length setup.spots
 lent_inside setup words slots world chunk kept lent = is_chunk setup world chunk kept.shown.chunk_count (lent_chunk (status world chunk) lent)
@@ -132,7 +132,7 @@ body_kept setup words slots world chunk body laid kept lent =
     let inside = lent_inside setup words slots world chunk kept lent in
     record {
       shown = shown_slot setup words slots world world chunk (record (stored_at slots chunk) { body = body }) laid shown inside refl (λ other differs. refl) (λ number _ never. never)
-          (shown.page chunk inside) (shown.header chunk inside) (lent_slot at.payload_size (status world chunk) (stored_at slots chunk) body lent (shown.slot chunk inside));
+          (shown.page chunk inside) (shown.header chunk inside) (lent_slot setup at.payload_size (status world chunk) (stored_at slots chunk) body lent (shown.slot chunk inside));
       owned = kept.owned;
       writers = kept.writers;
     }
@@ -140,40 +140,40 @@ body_kept setup words slots world chunk body laid kept lent =
 -- ---- set_header and publish
 
 -- a chunk that a writer holds is being written by it
-pub held_status : (setup : Setup) (words : List ℕ) (slots : List Stored) (world : World) (place chunk id : ℕ) → IsKept setup words slots world → IsHolding (writer world place) chunk id
-    → status world chunk ≡ Writing place id (draft_at (writer world place) id)
-held_status setup words slots world place chunk id kept holding = (kept.owned.owns place chunk).held_is id (draft_at (writer world place) id) holding
+pub held_status : (setup : Setup) (words : List ℕ) (slots : List Stored) (world : World) (place chunk position : ℕ) → IsKept setup words slots world → IsHolding (writer world place) chunk position
+    → status world chunk ≡ Writing place position (draft_at (writer world place) position)
+held_status setup words slots world place chunk position kept holding = (kept.owned.owns place chunk).held_is position (draft_at (writer world place) position) holding
 
 -- and one of the table's
-pub held_chunk : (setup : Setup) (words : List ℕ) (slots : List Stored) (world : World) (place chunk id : ℕ) → IsKept setup words slots world → IsHolding (writer world place) chunk id → chunk < length setup.spots
-held_chunk setup words slots world place chunk id kept holding =
-    let was = held_status setup words slots world place chunk id kept holding in is_chunk setup world chunk kept.shown.chunk_count (λ free. absurd cc)
+pub held_chunk : (setup : Setup) (words : List ℕ) (slots : List Stored) (world : World) (place chunk position : ℕ) → IsKept setup words slots world → IsHolding (writer world place) chunk position → chunk < length setup.spots
+held_chunk setup words slots world place chunk position kept holding =
+    let was = held_status setup words slots world place chunk position kept holding in is_chunk setup world chunk kept.shown.chunk_count (λ free. absurd cc)
 
 -- its slot
-pub held_slot : (setup : Setup) (words : List ℕ) (slots : List Stored) (world : World) (place chunk id : ℕ) → IsKept setup words slots world → IsHolding (writer world place) chunk id
-    → ShowsSlot (spot setup chunk).payload_size (Writing place id (draft_at (writer world place) id)) (stored_at slots chunk)
-held_slot setup words slots world place chunk id kept holding =
-    subst (λ t. ShowsSlot (spot setup chunk).payload_size t (stored_at slots chunk)) (held_status setup words slots world place chunk id kept holding)
-    (kept.shown.slot chunk (held_chunk setup words slots world place chunk id kept holding))
+pub held_slot : (setup : Setup) (words : List ℕ) (slots : List Stored) (world : World) (place chunk position : ℕ) → IsKept setup words slots world → IsHolding (writer world place) chunk position
+    → ShowsSlot setup (spot setup chunk).payload_size (Writing place position (draft_at (writer world place) position)) (stored_at slots chunk)
+held_slot setup words slots world place chunk position kept holding =
+    subst (λ t. ShowsSlot setup (spot setup chunk).payload_size t (stored_at slots chunk)) (held_status setup words slots world place chunk position kept holding)
+    (kept.shown.slot chunk (held_chunk setup words slots world place chunk position kept holding))
 
-pub header_kept : (setup : Setup) (words : List ℕ) (slots : List Stored) (world : World) (place chunk id header : ℕ) (head : Head)
+pub header_kept : (setup : Setup) (words : List ℕ) (slots : List Stored) (world : World) (place chunk position header : ℕ) (head : Head)
     → IsLaid setup → IsKept setup words slots world → place < length setup.writers
-    → IsHolding (writer world place) chunk id → IsHeader setup header place id head
-    → MayFollow (head_at (writer world place) id) head
-    → HasFragments (published (writer world place) id) (ends_by (writer world place) id head.count)
-    → sealed_to (ends_by (writer world place) id head.count) ≤ (spot setup chunk).payload_size
+    → IsHolding (writer world place) chunk position → IsHeader setup header place position head
+    → MayFollow (head_at (writer world place) position) head
+    → HasFragments (published (writer world place) position) (ends_by (writer world place) position head.count)
+    → sealed_to (ends_by (writer world place) position head.count) ≤ (spot setup chunk).payload_size
     → IsKept setup (set words (setup.pages + chunk) header) slots
-    (moved world place (redrafts (writer world place) chunk id (with_head (draft_at (writer world place) id) head (ends_by (writer world place) id head.count))) chunk
-    (Writing place id (with_head (draft_at (writer world place) id) head (ends_by (writer world place) id head.count))))
-header_kept setup words slots world place chunk id header head laid kept inside_w holding is_header follows reads inside =
+    (moved world place (redrafts (writer world place) chunk position (with_head (draft_at (writer world place) position) head (ends_by (writer world place) position head.count))) chunk
+    (Writing place position (with_head (draft_at (writer world place) position) head (ends_by (writer world place) position head.count))))
+header_kept setup words slots world place chunk position header head laid kept inside_w holding is_header follows reads inside =
     let shown = kept.shown in let at = spot setup chunk in let v = writer world place in
-    let old = draft_at v id in let ends = ends_by v id head.count in let draft = with_head old head ends in let is = Writing place id draft in
-    let was = held_status setup words slots world place chunk id kept holding in
-    let inside_c = held_chunk setup words slots world place chunk id kept holding in
-    let slot = held_slot setup words slots world place chunk id kept holding in
+    let old = draft_at v position in let ends = ends_by v position head.count in let draft = with_head old head ends in let is = Writing place position draft in
+    let was = held_status setup words slots world place chunk position kept holding in
+    let inside_c = held_chunk setup words slots world place chunk position kept holding in
+    let slot = held_slot setup words slots world place chunk position kept holding in
     let w_inside : place < length world.writers = let many = kept.writers in omega arith in
     let c_inside : chunk < length world.chunks = let many = shown.chunk_count in omega arith in
-    let view = redrafts v chunk id draft in
+    let view = redrafts v chunk position draft in
     let next = moved world place view chunk is in
     let now : status next chunk ≡ is = get_or-set_same world.chunks chunk is Unclaimed c_inside in
     let never : (number : ℕ) → NeverAsked setup world number → NeverAsked setup next number = never_same setup world place view next.chunks world.service w_inside refl in
@@ -182,78 +182,78 @@ header_kept setup words slots world place chunk id header head laid kept inside_
           (λ other differs. get_or-set_other world.chunks chunk other is Unclaimed differs) (λ number _. never number)
           (subst (λ t. ShowsPage setup next at (page_word setup words chunk) t) (sym now) (same_page setup world next at (page_word setup words chunk) (status world chunk) is (sym (ap state_of was)) (sym (ap claim_of was)) (never at.page) (shown.page chunk inside_c)))
           (subst (λ t. ShowsHeader setup header t) (sym now) is_header)
-          (subst (λ t. ShowsSlot at.payload_size t (stored_at slots chunk)) (sym now) (record { room = slot.room; words = (slot.words.0, inside); body = tt }));
-      owned = heads_owned world place chunk id old head ends kept.owned w_inside c_inside holding follows (record { count = length-ends_from (published v id) 0 (head.count - 1); reads = reads });
+          (subst (λ t. ShowsSlot setup at.payload_size t (stored_at slots chunk)) (sym now) (record { room = slot.room; words = (slot.words.0, inside); body = tt }));
+      owned = heads_owned world place chunk position old head ends kept.owned w_inside c_inside holding follows (record { count = length-ends_from (published v position) 0 (head.count - 1); reads = reads });
       writers = length-set world.writers place view ∙ kept.writers;
     }
 
-pub publish_kept : (setup : Setup) (words : List ℕ) (slots : List Stored) (world : World) (place chunk id : ℕ) (stored : List ℕ)
+pub publish_kept : (setup : Setup) (words : List ℕ) (slots : List Stored) (world : World) (place chunk position : ℕ) (stored : List ℕ)
     → IsLaid setup → IsKept setup words slots world → place < length setup.writers
-    → IsHolding (writer world place) chunk id → length stored ≡ length (stored_at slots chunk).words
-    → ((j : ℕ) → j < sealed_to (draft_at (writer world place) id).ends → byte_at stored j ≡ byte_at (draft_at (writer world place) id).words j)
+    → IsHolding (writer world place) chunk position → length stored ≡ length (stored_at slots chunk).words
+    → ((j : ℕ) → j < sealed_to (draft_at (writer world place) position).ends → byte_at stored j ≡ byte_at (draft_at (writer world place) position).words j)
     → IsKept setup words (set slots chunk (record (stored_at slots chunk) { words = stored }))
-    (drafted world place chunk id (with_words (draft_at (writer world place) id) stored))
-publish_kept setup words slots world place chunk id stored laid kept inside_w holding many same =
+    (drafted world place chunk position (with_words (draft_at (writer world place) position) stored))
+publish_kept setup words slots world place chunk position stored laid kept inside_w holding many same =
     let shown = kept.shown in let at = spot setup chunk in let v = writer world place in
-    let old = draft_at v id in let draft = with_words old stored in let is = Writing place id draft in
-    let was = held_status setup words slots world place chunk id kept holding in
-    let inside_c = held_chunk setup words slots world place chunk id kept holding in
-    let slot = held_slot setup words slots world place chunk id kept holding in
+    let old = draft_at v position in let draft = with_words old stored in let is = Writing place position draft in
+    let was = held_status setup words slots world place chunk position kept holding in
+    let inside_c = held_chunk setup words slots world place chunk position kept holding in
+    let slot = held_slot setup words slots world place chunk position kept holding in
     let w_inside : place < length world.writers = let many = kept.writers in omega arith in
     let c_inside : chunk < length world.chunks = let many = shown.chunk_count in omega arith in
-    let view = redrafts v chunk id draft in
+    let view = redrafts v chunk position draft in
     let next = moved world place view chunk is in
     let now : status next chunk ≡ is = get_or-set_same world.chunks chunk is Unclaimed c_inside in
     let never : (number : ℕ) → NeverAsked setup world number → NeverAsked setup next number = never_same setup world place view next.chunks world.service w_inside refl in
-    let header : IsHeader setup (header_word setup words chunk) place id old.head = subst (λ t. ShowsHeader setup (header_word setup words chunk) t) was (shown.header chunk inside_c) in
+    let header : IsHeader setup (header_word setup words chunk) place position old.head = subst (λ t. ShowsHeader setup (header_word setup words chunk) t) was (shown.header chunk inside_c) in
     record {
       shown = shown_slot setup words slots world next chunk (record (stored_at slots chunk) { words = stored }) laid shown inside_c (length-set world.chunks chunk is)
           (λ other differs. get_or-set_other world.chunks chunk other is Unclaimed differs) (λ number _. never number)
           (subst (λ t. ShowsPage setup next at (page_word setup words chunk) t) (sym now) (same_page setup world next at (page_word setup words chunk) (status world chunk) is (sym (ap state_of was)) (sym (ap claim_of was)) (never at.page) (shown.page chunk inside_c)))
           (subst (λ t. ShowsHeader setup (header_word setup words chunk) t) (sym now) header)
-          (subst (λ t. ShowsSlot at.payload_size t (record (stored_at slots chunk) { words = stored })) (sym now)
+          (subst (λ t. ShowsSlot setup at.payload_size t (record (stored_at slots chunk) { words = stored })) (sym now)
           (record { room = let room = slot.room in omega (arith, many); words = (refl, slot.words.1); body = tt }));
-      owned = stores_owned world place chunk id old stored kept.owned w_inside c_inside holding same;
+      owned = stores_owned world place chunk position old stored kept.owned w_inside c_inside holding same;
       writers = length-set world.writers place view ∙ kept.writers;
     }
 
 -- ---- complete
 
-pub complete_kept : (setup : Setup) (words : List ℕ) (slots : List Stored) (world : World) (place chunk id new : ℕ) (body : CommitBody)
+pub complete_kept : (setup : Setup) (words : List ℕ) (slots : List Stored) (world : World) (place chunk position new : ℕ) (body : CommitBody)
     → IsLaid setup → IsKept setup words slots world → place < length setup.writers
-    → IsHolding (writer world place) chunk id → (stored_at slots chunk).body ≡ Some body
-    → StandsWhole (spot setup chunk).payload_size (writer world place) id body
+    → IsHolding (writer world place) chunk position → (stored_at slots chunk).body ≡ Some body
+    → StandsWhole (spot setup chunk).payload_size (writer world place) position body
     → (HasState (page_word setup words chunk) (spot setup chunk).place state.BeingWritten → SetsState (page_word setup words chunk) new (spot setup chunk).place state.Complete)
     → KeepsOthers (page_word setup words chunk) new (spot setup chunk).place
     → IsKept setup (set words (spot setup chunk).page new) slots
-    (moved world place (completes (writer world place) chunk id (content_of place id (head_at (writer world place) id) body)) chunk (Ready place id (content_of place id (head_at (writer world place) id) body)))
-complete_kept setup words slots world place chunk id new body laid kept inside_w holding there whole sets keeps =
+    (moved world place (completes (writer world place) chunk position (content_of (from_of setup place) place position (head_at (writer world place) position) body)) chunk (Ready place position (content_of (from_of setup place) place position (head_at (writer world place) position) body)))
+complete_kept setup words slots world place chunk position new body laid kept inside_w holding there whole sets keeps =
     let shown = kept.shown in let at = spot setup chunk in let v = writer world place in
-    let old = draft_at v id in let content = content_of place id old.head body in let is = Ready place id content in
-    let was = held_status setup words slots world place chunk id kept holding in
-    let inside_c = held_chunk setup words slots world place chunk id kept holding in
-    let slot = held_slot setup words slots world place chunk id kept holding in
+    let old = draft_at v position in let content = content_of (from_of setup place) place position old.head body in let is = Ready place position content in
+    let was = held_status setup words slots world place chunk position kept holding in
+    let inside_c = held_chunk setup words slots world place chunk position kept holding in
+    let slot = held_slot setup words slots world place chunk position kept holding in
     let w_inside : place < length world.writers = let many = kept.writers in omega arith in
     let c_inside : chunk < length world.chunks = let many = shown.chunk_count in omega arith in
-    let view = completes v chunk id content in
+    let view = completes v chunk position content in
     let next = moved world place view chunk is in
     let now : status next chunk ≡ is = get_or-set_same world.chunks chunk is Unclaimed c_inside in
     let never : (number : ℕ) → NeverAsked setup world number → NeverAsked setup next number = never_same setup world place view next.chunks world.service w_inside refl in
-    let page : ShowsPage setup world at (page_word setup words chunk) (Writing place id old) = subst (λ t. ShowsPage setup world at (page_word setup words chunk) t) was (shown.page chunk inside_c) in
-    let header : IsHeader setup (header_word setup words chunk) place id old.head = subst (λ t. ShowsHeader setup (header_word setup words chunk) t) was (shown.header chunk inside_c) in
+    let page : ShowsPage setup world at (page_word setup words chunk) (Writing place position old) = subst (λ t. ShowsPage setup world at (page_word setup words chunk) t) was (shown.page chunk inside_c) in
+    let header : IsHeader setup (header_word setup words chunk) place position old.head = subst (λ t. ShowsHeader setup (header_word setup words chunk) t) was (shown.header chunk inside_c) in
     let many : length body.payload.items ≡ at.payload_size = let size = whole.size_is in let same = body.payload.ok.0 in omega arith in
     record {
       shown = shown_page_only setup words slots world next chunk new laid shown inside_c (length-set world.chunks chunk is)
           (λ other differs. get_or-set_other world.chunks chunk other is Unclaimed differs) (λ number _. never number)
           keeps
-          (subst (λ t. ShowsPage setup next at new t) (sym now) (sets_page setup world next at (page_word setup words chunk) new (Writing place id old) is (laid.place chunk inside_c) (laid.chunks chunk inside_c) (sets page.state) refl (never at.page) page))
+          (subst (λ t. ShowsPage setup next at new t) (sym now) (sets_page setup world next at (page_word setup words chunk) new (Writing place position old) is (laid.place chunk inside_c) (laid.chunks chunk inside_c) (sets page.state) refl (never at.page) page))
           (subst (λ t. ShowsHeader setup (header_word setup words chunk) t) (sym now) header)
-          (subst (λ t. ShowsSlot at.payload_size t (stored_at slots chunk)) (sym now) (record {
+          (subst (λ t. ShowsSlot setup at.payload_size t (stored_at slots chunk)) (sym now) (record {
             room = slot.room;
             words = record { whole = many; bytes = λ j less. ap (λ w. byte_at w j) slot.words.0 ∙ whole.published j (omega arith) };
             body = (body, there, record { whole = whole.size_is; patches_are = refl; target_is = refl });
           }));
-      owned = completes_owned world place chunk id old content kept.owned w_inside c_inside holding refl refl refl
+      owned = completes_owned world place chunk position old content kept.owned w_inside c_inside holding refl refl refl
           (let most = slot.words.1 in omega arith) (λ j less. whole.published j (let most = slot.words.1 in omega arith));
       writers = length-set world.writers place view ∙ kept.writers;
     }

@@ -16,7 +16,7 @@ use Rattle.commit_body.specs.declared.body.CommitBody.{CommitBody}
 use Rattle.trace_model.specs.Calls as call
 use Rattle.chunk_plain.specs.declared.setup.Spot.{Spot}
 use Rattle.chunk_plain.specs.declared.step.Step.TheVariants.{Claim, Stamp, SetHeader, Look, Take}
-use Rattle.chunk_plain.specs.Setup.{Setup, spot, IsLaid}
+use Rattle.chunk_plain.specs.Setup.{Setup, spot, IsLaid, from_of, id_at}
 use Rattle.chunk_plain.specs.Payload.{byte_at, sealed_to, HasFragments}
 use Rattle.chunk_plain.specs.Views.{Content, WriterView, ServiceView, newcomer, fresh, taken_of}
 use Rattle.chunk_plain.specs.World.{World, Status, Unclaimed, Writing, Ready, Reading, status, writer}
@@ -24,7 +24,7 @@ use Rattle.chunk_plain.specs.Steps.{begins, with_words, drafted, completes, note
 use Rattle.chunk_plain.specs.Owned.{times, claims_of}
 use Rattle.chunk_plain.specs.Drafts.{MayFollow, draft_at, head_at, published, ends_by, IsHolding}
 use Rattle.chunk_plain.specs.Stored.{Stored, stored_at}
-use Rattle.chunk_plain.specs.Shows.{claim_of, content_of, IsHeader, page_word}
+use Rattle.chunk_plain.specs.Shows.{claim_of, content_of, page_word}
 use Rattle.chunk_plain.specs.Plain.{IsLent, StandsWhole, world_after, read_as, IsKept}
 use Rattle.chunk_plain.proofs.Kept.{claim_kept, claim_seen, claim_bit_free}
 use Rattle.chunk_plain.proofs.KeptWriter.{claimed_by, is_chunk, body_of_claimed, stamp_kept, begin_kept, lent_inside, body_kept, held_status, held_chunk, held_slot, header_kept, publish_kept, complete_kept, call_kept}
@@ -68,11 +68,11 @@ module _ (setup : Setup) (words : List ℕ) (slots : List Stored) (world : World
   pub claimed_inside : (place chunk : ℕ) → 0 < times chunk (writer world place).claimed → chunk < length setup.spots
   claimed_inside place chunk mine = ∥∥₁_elim kept (hlevel le_prop) (λ k. let was = claimed_by world place chunk k.owned mine in is_chunk setup world chunk k.shown.chunk_count (λ free. absurd cc))
 
-  pub stamped_inside : (place chunk id : ℕ) → (writer world place).stamped ≡ Some (record { chunk = chunk; id = id }) → chunk < length setup.spots
-  stamped_inside place chunk id stamped = ∥∥₁_elim kept (hlevel le_prop) (λ k. let was = (k.owned.owns place chunk).stamp_is id stamped in is_chunk setup world chunk k.shown.chunk_count (λ free. absurd cc))
+  pub stamped_inside : (place chunk position : ℕ) → (writer world place).stamped ≡ Some (record { chunk = chunk; position = position }) → chunk < length setup.spots
+  stamped_inside place chunk position stamped = ∥∥₁_elim kept (hlevel le_prop) (λ k. let was = (k.owned.owns place chunk).stamp_is position stamped in is_chunk setup world chunk k.shown.chunk_count (λ free. absurd cc))
 
-  pub held_inside : (place chunk id : ℕ) → IsHolding (writer world place) chunk id → chunk < length setup.spots
-  held_inside place chunk id holding = ∥∥₁_elim kept (hlevel le_prop) (λ k. held_chunk setup words slots world place chunk id k holding)
+  pub held_inside : (place chunk position : ℕ) → IsHolding (writer world place) chunk position → chunk < length setup.spots
+  held_inside place chunk position holding = ∥∥₁_elim kept (hlevel le_prop) (λ k. held_chunk setup words slots world place chunk position k holding)
 
   pub out_inside : (chunk : ℕ) → ∥ IsLent (status world chunk) ∥₁ → chunk < length setup.spots
   out_inside chunk lent = ∥∥₁_elim kept (hlevel le_prop) (λ k. ∥∥₁_elim lent (hlevel le_prop) (λ l. lent_inside setup words slots world chunk k l))
@@ -88,8 +88,8 @@ module _ (setup : Setup) (words : List ℕ) (slots : List Stored) (world : World
       let some_same : Some b.0 ≡ Some body = sym b.1 ∙ is in let same : b.0 ≡ body = cc in subst (λ (x : CommitBody). vec_len x.payload ≡ (spot setup chunk).payload_size) same b.2.whole)
 
   -- a chunk that a writer holds, or that the service reads, may have its body with a token
-  pub held_lent : (place chunk id : ℕ) → IsHolding (writer world place) chunk id → ∥ IsLent (status world chunk) ∥₁
-  held_lent place chunk id holding = ∥∥₁_map kept (λ k. subst IsLent (sym (held_status setup words slots world place chunk id k holding)) tt)
+  pub held_lent : (place chunk position : ℕ) → IsHolding (writer world place) chunk position → ∥ IsLent (status world chunk) ∥₁
+  held_lent place chunk position holding = ∥∥₁_map kept (λ k. subst IsLent (sym (held_status setup words slots world place chunk position k holding)) tt)
 
   pub read_lent : (chunk : ℕ) → 0 < times chunk world.service.reading → ∥ IsLent (status world chunk) ∥₁
   read_lent chunk reading = ∥∥₁_map kept (λ k. subst IsLent (sym (reading_of world chunk k.owned reading).3) tt)
@@ -99,8 +99,8 @@ module _ (setup : Setup) (words : List ℕ) (slots : List Stored) (world : World
   room chunk inside = ∥∥₁_elim kept (hlevel le_prop) (λ k. (k.shown.slot chunk inside).room)
 
   -- the words of a held chunk are the draft's
-  pub draft_here : (place chunk id : ℕ) → IsHolding (writer world place) chunk id → (stored_at slots chunk).words ≡ (draft_at (writer world place) id).words
-  draft_here place chunk id holding = ∥∥₁_elim kept (words_set _ _) (λ k. (held_slot setup words slots world place chunk id k holding).words.0)
+  pub draft_here : (place chunk position : ℕ) → IsHolding (writer world place) chunk position → (stored_at slots chunk).words ≡ (draft_at (writer world place) position).words
+  draft_here place chunk position holding = ∥∥₁_elim kept (words_set _ _) (λ k. (held_slot setup words slots world place chunk position k holding).words.0)
 
   -- ---- claim
 
@@ -141,17 +141,23 @@ module _ (setup : Setup) (words : List ℕ) (slots : List Stored) (world : World
   -- ---- begin
 
   pub stamp_step : (next : World) (place chunk id index header : ℕ) → index ≡ setup.pages + chunk → IsLaid setup → place < length setup.writers → place + 1 < 2 ^ 16
-      → 0 < times chunk (writer world place).claimed → (writer world place).stamped ≡ None → id ≡ length (writer world place).begun → id < 2 ^ 32 - 1
+      → 0 < times chunk (writer world place).claimed → (writer world place).stamped ≡ None → id ≡ id_at setup place (length (writer world place).begun) → length (writer world place).begun < 2 ^ 32 - 1
       → header ≡ packed (record { chunk_id = id; writer_id = place + 1; count = 0; flags = 0 })
       → next ≡ world_after world (Stamp place chunk) → ∥ IsKept setup (set words index header) slots next ∥₁
-  stamp_step next place chunk id index header index_is laid inside_w number_fits mine unstamped id_is id_fits header_is next_is =
+  stamp_step next place chunk id index header index_is laid inside_w number_fits mine unstamped id_is few header_is next_is =
       subst (λ w. ∥ IsKept setup (set words index header) slots w ∥₁) (sym next_is)
       (subst (λ i. ∥ IsKept setup (set words i header) slots (world_after world (Stamp place chunk)) ∥₁) (sym index_is)
       (∥∥₁_map kept (λ k. stamp_kept setup words slots world place chunk header laid k inside_w (claimed_inside place chunk mine) mine unstamped
-      (subst (λ i. IsHeader setup header place i (record { count = 0; flags = 0 })) id_is record { word_is = header_is; id_fits = omega arith; writer_fits = number_fits; count_fits = omega arith; flags_fit = omega arith }))))
+      record {
+        word_is = header_is ∙ ap (λ (i : ℕ). packed (record { chunk_id = i; writer_id = place + 1; count = 0; flags = 0 })) id_is;
+        position_fits = omega (arith, few);
+        writer_fits = number_fits;
+        count_fits = omega arith;
+        flags_fit = omega arith;
+      })))
 
   pub begin_step : (next : World) (place chunk found new : ℕ) (at : Spot) → at ≡ spot setup chunk → IsLaid setup → place < length setup.writers
-      → (writer world place).stamped ≡ Some (record { chunk = chunk; id = length (writer world place).begun })
+      → (writer world place).stamped ≡ Some (record { chunk = chunk; position = length (writer world place).begun })
       → found ≡ get_or words at.page 0
       → (HasState found at.place state.Free → SetsState found new at.place state.BeingWritten) → KeepsOthers found new at.place
       → next ≡ moved world place (begins (writer world place) chunk (stored_at slots chunk).words) chunk (Writing place (length (writer world place).begun) (fresh (stored_at slots chunk).words))
@@ -175,43 +181,43 @@ module _ (setup : Setup) (words : List ℕ) (slots : List Stored) (world : World
 
   -- ---- set_header and publish
 
-  pub header_step : (next : World) (place chunk id index header count flags : ℕ) → index ≡ setup.pages + chunk → IsLaid setup → place < length setup.writers → place + 1 < 2 ^ 16
-      → IsHolding (writer world place) chunk id → id < 2 ^ 32 → count < 2 ^ 10 → flags < 2 ^ 6
-      → header ≡ packed (record { chunk_id = id; writer_id = place + 1; count = count; flags = flags })
-      → MayFollow (head_at (writer world place) id) (record { count = count; flags = flags })
-      → HasFragments (published (writer world place) id) (ends_by (writer world place) id count)
-      → sealed_to (ends_by (writer world place) id count) ≤ (spot setup chunk).payload_size
-      → next ≡ world_after world (SetHeader place chunk id count flags) → ∥ IsKept setup (set words index header) slots next ∥₁
-  header_step next place chunk id index header count flags index_is laid inside_w number_fits holding id_fits count_fits flags_fit header_is follows reads inside next_is =
+  pub header_step : (next : World) (place chunk position index header count flags : ℕ) → index ≡ setup.pages + chunk → IsLaid setup → place < length setup.writers → place + 1 < 2 ^ 16
+      → IsHolding (writer world place) chunk position → position < 2 ^ 32 → count < 2 ^ 10 → flags < 2 ^ 6
+      → header ≡ packed (record { chunk_id = id_at setup place position; writer_id = place + 1; count = count; flags = flags })
+      → MayFollow (head_at (writer world place) position) (record { count = count; flags = flags })
+      → HasFragments (published (writer world place) position) (ends_by (writer world place) position count)
+      → sealed_to (ends_by (writer world place) position count) ≤ (spot setup chunk).payload_size
+      → next ≡ world_after world (SetHeader place chunk position count flags) → ∥ IsKept setup (set words index header) slots next ∥₁
+  header_step next place chunk position index header count flags index_is laid inside_w number_fits holding position_fits count_fits flags_fit header_is follows reads inside next_is =
       subst (λ w. ∥ IsKept setup (set words index header) slots w ∥₁) (sym next_is)
-      (subst (λ i. ∥ IsKept setup (set words i header) slots (world_after world (SetHeader place chunk id count flags)) ∥₁) (sym index_is)
-      (∥∥₁_map kept (λ k. header_kept setup words slots world place chunk id header (record { count = count; flags = flags }) laid k inside_w holding
-      record { word_is = header_is; id_fits = id_fits; writer_fits = number_fits; count_fits = count_fits; flags_fit = flags_fit } follows reads inside)))
+      (subst (λ i. ∥ IsKept setup (set words i header) slots (world_after world (SetHeader place chunk position count flags)) ∥₁) (sym index_is)
+      (∥∥₁_map kept (λ k. header_kept setup words slots world place chunk position header (record { count = count; flags = flags }) laid k inside_w holding
+      record { word_is = header_is; position_fits = position_fits; writer_fits = number_fits; count_fits = count_fits; flags_fit = flags_fit } follows reads inside)))
 
-  pub words_step : (next : World) (slots' : List Stored) (place chunk id : ℕ) (stored : List ℕ) → IsLaid setup → place < length setup.writers
-      → IsHolding (writer world place) chunk id → length stored ≡ length (stored_at slots chunk).words
-      → ((j : ℕ) → j < sealed_to (draft_at (writer world place) id).ends → byte_at stored j ≡ byte_at (draft_at (writer world place) id).words j)
+  pub words_step : (next : World) (slots' : List Stored) (place chunk position : ℕ) (stored : List ℕ) → IsLaid setup → place < length setup.writers
+      → IsHolding (writer world place) chunk position → length stored ≡ length (stored_at slots chunk).words
+      → ((j : ℕ) → j < sealed_to (draft_at (writer world place) position).ends → byte_at stored j ≡ byte_at (draft_at (writer world place) position).words j)
       → slots' ≡ set slots chunk (record (stored_at slots chunk) { words = stored })
-      → next ≡ drafted world place chunk id (with_words (draft_at (writer world place) id) stored) → ∥ IsKept setup words slots' next ∥₁
-  words_step next slots' place chunk id stored laid inside_w holding many same is next_is =
+      → next ≡ drafted world place chunk position (with_words (draft_at (writer world place) position) stored) → ∥ IsKept setup words slots' next ∥₁
+  words_step next slots' place chunk position stored laid inside_w holding many same is next_is =
       subst (λ w. ∥ IsKept setup words slots' w ∥₁) (sym next_is)
-      (subst (λ l. ∥ IsKept setup words l (drafted world place chunk id (with_words (draft_at (writer world place) id) stored)) ∥₁) (sym is)
-      (∥∥₁_map kept (λ k. publish_kept setup words slots world place chunk id stored laid k inside_w holding many same)))
+      (subst (λ l. ∥ IsKept setup words l (drafted world place chunk position (with_words (draft_at (writer world place) position) stored)) ∥₁) (sym is)
+      (∥∥₁_map kept (λ k. publish_kept setup words slots world place chunk position stored laid k inside_w holding many same)))
 
   -- ---- complete
 
-  pub complete_step : (next : World) (place chunk id found new : ℕ) (body : CommitBody) (at : Spot) → at ≡ spot setup chunk → IsLaid setup → place < length setup.writers
-      → IsHolding (writer world place) chunk id → (stored_at slots chunk).body ≡ Some body
-      → StandsWhole (spot setup chunk).payload_size (writer world place) id body
+  pub complete_step : (next : World) (place chunk position found new : ℕ) (body : CommitBody) (at : Spot) → at ≡ spot setup chunk → IsLaid setup → place < length setup.writers
+      → IsHolding (writer world place) chunk position → (stored_at slots chunk).body ≡ Some body
+      → StandsWhole (spot setup chunk).payload_size (writer world place) position body
       → found ≡ get_or words at.page 0
       → (HasState found at.place state.BeingWritten → SetsState found new at.place state.Complete) → KeepsOthers found new at.place
-      → next ≡ moved world place (completes (writer world place) chunk id (content_of place id (head_at (writer world place) id) body)) chunk (Ready place id (content_of place id (head_at (writer world place) id) body))
+      → next ≡ moved world place (completes (writer world place) chunk position (content_of (from_of setup place) place position (head_at (writer world place) position) body)) chunk (Ready place position (content_of (from_of setup place) place position (head_at (writer world place) position) body))
       → ∥ IsKept setup (set words at.page new) slots next ∥₁
-  complete_step next place chunk id found new body at at_is laid inside_w holding there whole is sets keeps next_is =
+  complete_step next place chunk position found new body at at_is laid inside_w holding there whole is sets keeps next_is =
       subst (λ w. ∥ IsKept setup (set words at.page new) slots w ∥₁) (sym next_is)
       (subst (λ (s : Spot). found ≡ get_or words s.page 0 → (HasState found s.place state.BeingWritten → SetsState found new s.place state.Complete) → KeepsOthers found new s.place
-      → ∥ IsKept setup (set words s.page new) slots (moved world place (completes (writer world place) chunk id (content_of place id (head_at (writer world place) id) body)) chunk (Ready place id (content_of place id (head_at (writer world place) id) body))) ∥₁) (sym at_is)
-      (λ read steps others. ∥∥₁_map kept (λ k. complete_kept setup words slots world place chunk id new body laid k inside_w holding there whole
+      → ∥ IsKept setup (set words s.page new) slots (moved world place (completes (writer world place) chunk position (content_of (from_of setup place) place position (head_at (writer world place) position) body)) chunk (Ready place position (content_of (from_of setup place) place position (head_at (writer world place) position) body))) ∥₁) (sym at_is)
+      (λ read steps others. ∥∥₁_map kept (λ k. complete_kept setup words slots world place chunk position new body laid k inside_w holding there whole
       (subst (λ w. HasState w (spot setup chunk).place state.BeingWritten → SetsState w new (spot setup chunk).place state.Complete) read steps)
       (subst (λ w. KeepsOthers w new (spot setup chunk).place) read others)))
       is sets keeps)
@@ -260,12 +266,12 @@ module _ (setup : Setup) (words : List ℕ) (slots : List Stored) (world : World
 
   pub learn_step : (next : World) (place chunk : ℕ) (header : ChunkHeader) (body : CommitBody) → place < length setup.writers
       → (taken_of world.service place).count ≡ length (taken_of world.service place).contents + 1
-      → ∥ status world chunk ≡ Reading place (length (taken_of world.service place).contents) (content_of place header.chunk_id (record { count = header.count; flags = header.flags }) body) ∥₁
-      → next ≡ serviced world (learns world.service place (content_of place header.chunk_id (record { count = header.count; flags = header.flags }) body))
+      → ∥ status world chunk ≡ Reading place (length (taken_of world.service place).contents) (content_of (from_of setup place) place (length (taken_of world.service place).contents) (record { count = header.count; flags = header.flags }) body) ∥₁
+      → next ≡ serviced world (learns world.service place (content_of (from_of setup place) place (length (taken_of world.service place).contents) (record { count = header.count; flags = header.flags }) body))
       → ∥ IsKept setup words slots next ∥₁
   learn_step next place chunk header body inside last reading next_is =
       subst (λ w. ∥ IsKept setup words slots w ∥₁) (sym next_is)
-      (∥∥₁_elim reading squash₁ (λ r. ∥∥₁_map kept (λ k. learn_kept setup words slots world place chunk (content_of place header.chunk_id (record { count = header.count; flags = header.flags }) body) k inside last r)))
+      (∥∥₁_elim reading squash₁ (λ r. ∥∥₁_map kept (λ k. learn_kept setup words slots world place chunk (content_of (from_of setup place) place (length (taken_of world.service place).contents) (record { count = header.count; flags = header.flags }) body) k inside last r)))
 
   -- ---- release
 

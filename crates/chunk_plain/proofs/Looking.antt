@@ -8,7 +8,7 @@ use Rattle.page_geometry.specs.Header.{unpacked}
 use Rattle.page_geometry.specs.PageBits.{HasState}
 use Rattle.page_geometry.specs.declared.chunk_header.ChunkHeader.{ChunkHeader}
 use Rattle.page_geometry.specs.declared.chunk_state.ChunkState.TheVariants.{BeingWritten}
-use Rattle.chunk_plain.specs.Setup.{Setup, spot}
+use Rattle.chunk_plain.specs.Setup.{Setup, spot, id_at}
 use Rattle.chunk_plain.specs.Payload.{byte_at, byte_in, first_bytes, sealed_to}
 use Rattle.chunk_plain.specs.Views.{Head, Draft, Content, Completed, taken_of}
 use Rattle.chunk_plain.specs.World.{World, Status, Unclaimed, Claimed, Stamped, Writing, Ready, Reading, status, writer}
@@ -26,51 +26,52 @@ use Rattle.chunk_plain.proofs.KeptService.{held_untaken, finished, header_reads,
 module _ (setup : Setup) (words : List ℕ) (slots : List Stored) (world : World) (kept : ∥ IsKept setup words slots world ∥₁) where
   -- a chunk whose state is being written has that status
   written : (chunk word : ℕ) (is : Status) → status world chunk ≡ is → chunk < length setup.spots → word ≡ page_word setup words chunk
-      → HasState word (spot setup chunk).place BeingWritten → ∥ ((k id : ℕ) × (draft : Draft) × (is ≡ Writing k id draft)) ∥₁
+      → HasState word (spot setup chunk).place BeingWritten → ∥ ((k position : ℕ) × (draft : Draft) × (is ≡ Writing k position draft)) ∥₁
   written chunk word is was inside word_is has =
       ∥∥₁_map kept (λ k. writing_status is word (spot setup chunk).place
       (subst (λ t. HasState word (spot setup chunk).place (state_of t)) was (subst (λ w. HasState w (spot setup chunk).place (state_of (status world chunk))) (sym word_is) (k.shown.page chunk inside).state)) has)
 
   not_written : (chunk word : ℕ) (header : ChunkHeader) (is : Status) → status world chunk ≡ is → chunk < length setup.spots → word ≡ page_word setup words chunk
-      → ((k id : ℕ) (draft : Draft) → is ≡ Writing k id draft → ⊥) → found_in is ≡ None → FindsWritten setup chunk word header world.service (found_in is)
+      → ((k position : ℕ) (draft : Draft) → is ≡ Writing k position draft → ⊥) → found_in is ≡ None → FindsWritten setup chunk word header world.service (found_in is)
   not_written chunk word header is was inside word_is apart none = record {
     some = λ has. absurd (∥∥₁_elim (written chunk word is was inside word_is has) (λ x y. absurd x) (λ w. apart w.0 w.1 w.2 w.3));
     none = λ _. none;
   }
 
-  of_header : (chunk : ℕ) (header : ChunkHeader) (place id : ℕ) (draft : Draft) → status world chunk ≡ Writing place id draft → chunk < length setup.spots
+  of_header : (chunk : ℕ) (header : ChunkHeader) (place position : ℕ) (draft : Draft) → status world chunk ≡ Writing place position draft → chunk < length setup.spots
       → header ≡ unpacked (header_word setup words chunk)
       → let n = sealed_to draft.ends in
-      IsOfHeader setup header world.service (record { place = place; id = id; head = draft.head; ends = draft.ends; sealed = first_bytes (byte_at draft.words) n })
-  of_header chunk header place id draft was inside header_is =
+      IsOfHeader setup header world.service (record { place = place; position = position; head = draft.head; ends = draft.ends; sealed = first_bytes (byte_at draft.words) n })
+  of_header chunk header place position draft was inside header_is =
       ∥∥₁_elim kept (hlevel (le_prop, ℕ_set)) (λ k.
-      let shows : IsHeader setup (header_word setup words chunk) place id draft.head = subst (λ t. ShowsHeader setup (header_word setup words chunk) t) was (k.shown.header chunk inside) in
-      let reads : header ≡ record { chunk_id = id; writer_id = place + 1; count = draft.head.count; flags = draft.head.flags } = header_is ∙ header_reads setup (header_word setup words chunk) place id draft.head shows in
-      let at = (k.owned.owns place chunk).writing_is id draft was in
+      let shows : IsHeader setup (header_word setup words chunk) place position draft.head = subst (λ t. ShowsHeader setup (header_word setup words chunk) t) was (k.shown.header chunk inside) in
+      let reads : header ≡ record { chunk_id = id_at setup place position; writer_id = place + 1; count = draft.head.count; flags = draft.head.flags } = header_is ∙ header_reads setup (header_word setup words chunk) place position draft.head shows in
+      let at = (k.owned.owns place chunk).writing_is position draft was in
       record {
         place_is = sym (ap (λ (h : ChunkHeader). h.writer_id) reads);
         id_is = sym (ap (λ (h : ChunkHeader). h.chunk_id) reads);
+        position_fits = shows.position_fits;
         head_is = sym (ap (λ (h : ChunkHeader). let head : Head = record { count = h.count; flags = h.flags } in head) reads);
-        untaken = held_untaken world place chunk id draft k.owned at;
-        finished = finished world place chunk id draft k.owned at;
+        untaken = held_untaken world place chunk position draft k.owned at;
+        finished = finished world place chunk position draft k.owned at;
       })
 
   finds_by : (chunk word : ℕ) (header : ChunkHeader) (is : Status) → status world chunk ≡ is → chunk < length setup.spots → word ≡ page_word setup words chunk
       → header ≡ unpacked (header_word setup words chunk) → FindsWritten setup chunk word header world.service (found_in is)
-  finds_by chunk word header Unclaimed was inside word_is header_is = not_written chunk word header Unclaimed was inside word_is (λ k id draft e. absurd cc) refl
-  finds_by chunk word header (Claimed place) was inside word_is header_is = not_written chunk word header (Claimed place) was inside word_is (λ k id draft e. absurd cc) refl
-  finds_by chunk word header (Stamped place id) was inside word_is header_is = not_written chunk word header (Stamped place id) was inside word_is (λ k i draft e. absurd cc) refl
-  finds_by chunk word header (Writing place id draft) was inside word_is header_is = record {
+  finds_by chunk word header Unclaimed was inside word_is header_is = not_written chunk word header Unclaimed was inside word_is (λ k position draft e. absurd cc) refl
+  finds_by chunk word header (Claimed place) was inside word_is header_is = not_written chunk word header (Claimed place) was inside word_is (λ k position draft e. absurd cc) refl
+  finds_by chunk word header (Stamped place position) was inside word_is header_is = not_written chunk word header (Stamped place position) was inside word_is (λ k i draft e. absurd cc) refl
+  finds_by chunk word header (Writing place position draft) was inside word_is header_is = record {
     some = λ has. (
-      record { place = place; id = id; head = draft.head; ends = draft.ends; sealed = first_bytes (byte_at draft.words) (sealed_to draft.ends) },
+      record { place = place; position = position; head = draft.head; ends = draft.ends; sealed = first_bytes (byte_at draft.words) (sealed_to draft.ends) },
       refl,
-      of_header chunk header place id draft was inside header_is,
+      of_header chunk header place position draft was inside header_is,
     );
     none = λ apart. absurd (∥∥₁_elim kept (λ x y. absurd x) (λ k. apart
         (subst (λ w. HasState w (spot setup chunk).place BeingWritten) (sym word_is) (subst (λ t. HasState (page_word setup words chunk) (spot setup chunk).place (state_of t)) was (k.shown.page chunk inside).state))));
   }
-  finds_by chunk word header (Ready place id content) was inside word_is header_is = not_written chunk word header (Ready place id content) was inside word_is (λ k i draft e. absurd cc) refl
-  finds_by chunk word header (Reading place id content) was inside word_is header_is = not_written chunk word header (Reading place id content) was inside word_is (λ k i draft e. absurd cc) refl
+  finds_by chunk word header (Ready place position content) was inside word_is header_is = not_written chunk word header (Ready place position content) was inside word_is (λ k i draft e. absurd cc) refl
+  finds_by chunk word header (Reading place position content) was inside word_is header_is = not_written chunk word header (Reading place position content) was inside word_is (λ k i draft e. absurd cc) refl
 
   pub finds_written : (chunk word : ℕ) (header : ChunkHeader) → chunk < length setup.spots → word ≡ page_word setup words chunk
       → header ≡ unpacked (header_word setup words chunk) → FindsWritten setup chunk word header world.service (found_in (status world chunk))
@@ -86,15 +87,15 @@ module _ (setup : Setup) (words : List ℕ) (slots : List Stored) (world : World
 
   -- ---- what is loaded
 
-  shows_payload : (chunk : ℕ) (bytes : List ℕ) (is : Status) → length bytes ≡ (spot setup chunk).payload_size → ShowsSlot (spot setup chunk).payload_size is (stored_at slots chunk)
+  shows_payload : (chunk : ℕ) (bytes : List ℕ) (is : Status) → length bytes ≡ (spot setup chunk).payload_size → ShowsSlot setup (spot setup chunk).payload_size is (stored_at slots chunk)
       → ((j : ℕ) → j < length bytes → byte_in bytes j ≡ byte_at (stored_at slots chunk).words j) → ShowsPayload is bytes
   shows_payload chunk bytes Unclaimed whole slot loaded = tt
   shows_payload chunk bytes (Claimed place) whole slot loaded = tt
-  shows_payload chunk bytes (Stamped place id) whole slot loaded = tt
-  shows_payload chunk bytes (Writing place id draft) whole slot loaded = λ j below. loaded j below ∙ ap (λ l. byte_at l j) slot.words.0
-  shows_payload chunk bytes (Ready place id content) whole slot loaded =
+  shows_payload chunk bytes (Stamped place position) whole slot loaded = tt
+  shows_payload chunk bytes (Writing place position draft) whole slot loaded = λ j below. loaded j below ∙ ap (λ l. byte_at l j) slot.words.0
+  shows_payload chunk bytes (Ready place position content) whole slot loaded =
       same_number_lists bytes content.image.payload (whole ∙ sym slot.words.whole) (λ j below. loaded j below ∙ slot.words.bytes j (omega (arith, whole)))
-  shows_payload chunk bytes (Reading place id content) whole slot loaded =
+  shows_payload chunk bytes (Reading place position content) whole slot loaded =
       same_number_lists bytes content.image.payload (whole ∙ sym slot.words.whole) (λ j below. loaded j below ∙ slot.words.bytes j (omega (arith, whole)))
 
   module _ (chunk : ℕ) (bytes : List ℕ) (inside : chunk < length setup.spots) (whole : length bytes ≡ (spot setup chunk).payload_size)
@@ -119,7 +120,7 @@ module _ (setup : Setup) (words : List ℕ) (slots : List Stored) (world : World
     load_read reading serving =
         ∥∥₁_map kept (λ k.
         let was = reading_of world chunk k.owned reading in
-        let slot : ShowsSlot (spot setup chunk).payload_size (Reading was.0 was.1 was.2) (stored_at slots chunk) = subst (λ t. ShowsSlot (spot setup chunk).payload_size t (stored_at slots chunk)) was.3 (k.shown.slot chunk inside) in
+        let slot : ShowsSlot setup (spot setup chunk).payload_size (Reading was.0 was.1 was.2) (stored_at slots chunk) = subst (λ t. ShowsSlot setup (spot setup chunk).payload_size t (stored_at slots chunk)) was.3 (k.shown.slot chunk inside) in
         let at = (k.owned.owns was.0 chunk).reading_is was.1 was.2 was.3 in
         let has = at_some (taken_of world.service was.0).contents was.1 (let level = serving.level was.0 in let below = at.1 in omega arith) in
         let done = (k.owned.counts was.0).learnt was.1 has.0 has.1 in
@@ -127,7 +128,7 @@ module _ (setup : Setup) (words : List ℕ) (slots : List Stored) (world : World
         let content_is : was.2 ≡ has.0 = cc in
         record {
           place = was.0;
-          id = was.1;
+          position = was.1;
           content = has.0;
           at = has.1;
           bytes_are = shows_payload chunk bytes (Reading was.0 was.1 was.2) whole slot loaded ∙ ap (λ (m : Content). m.image.payload) content_is;

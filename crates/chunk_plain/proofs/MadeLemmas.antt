@@ -5,12 +5,14 @@ use Rattle.std.proofs.Math.Seq.{get_or-append_seam}
 use native.Mathlib.Decide.{dec_le}
 use mathlib.Core.Logic.{dite}
 use Rattle.chunk_plain.specs.declared.setup.Spot.{Spot}
-use Rattle.chunk_plain.specs.Setup.{no_spot}
+use Rattle.chunk_plain.specs.Setup.{no_spot, no_writer}
 use Rattle.chunk_plain.specs.declared.plain_seats.PlainWriter.{PlainWriter}
 use Rattle.chunk_plain.specs.Made.{IsFreeSlot, HasFreeSlots, AllZero, HasSeats}
 use Rattle.chunk_plain.specs.Stored.{Stored, nothing_stored, stored_at}
 use Rattle.std.proofs.Common.{zero, suc, map, replicate, inr, ◌*◌}
+use Rattle.std.specs.Prelude.{All}
 use Rattle.std.proofs.lemmas.List.{length-map, length-replicate}
+use Rattle.std.proofs.lemmas.List.Elements.{All-head, All-tail}
 use Rattle.std.proofs.lemmas.Nat.Bits.{bit_at-zero}
 use mathlib.Core.Option.{some-ne-none}
 use Rattle.chunk_plain.specs.Setup.{Setup, spot}
@@ -20,6 +22,7 @@ use Rattle.chunk_plain.specs.Owned.{reads_of, Owns, Counts, IsOwned}
 use Rattle.chunk_plain.specs.Shows.{ShowsPage, ShowsHeader, ShowsSlot, header_word}
 use Rattle.chunk_plain.specs.Words.{IsAtRest, IsServing}
 use Rattle.chunk_plain.specs.Plain.{first_world, IsKept}
+use Rattle.trace_base.specs.declared.policy.WriterSpec.{WriterSpec}
 
 pub slots_more : (spots : List Spot) (count : ℕ) (slots : List Stored) (slot : Stored) → HasFreeSlots spots count slots
     → IsFreeSlot (get_or spots count no_spot).payload_size slot → HasFreeSlots spots (count + 1) (slots ++ slot ∷ [])
@@ -52,6 +55,16 @@ all_same d [] i = refl
 all_same d (x ∷ xs) zero = refl
 all_same d (x ∷ xs) (suc i) = all_same d xs i
 
+-- the writer begins with the id 0
+abbrev pub BeginsAtNought : WriterSpec → Type 0
+BeginsAtNought spec = spec.from ≡ 0
+
+-- where every writer does, so does the one at each place, and one that there isn't
+pub from_nought : (specs : List WriterSpec) (place : ℕ) → All BeginsAtNought specs → (get_or specs place no_writer).from ≡ 0
+from_nought [] place all = refl
+from_nought (spec ∷ specs) zero all = All-head BeginsAtNought spec specs all
+from_nought (spec ∷ specs) (suc place) all = from_nought specs place (All-tail BeginsAtNought spec specs all)
+
 all_zero : (n i : ℕ) → let zeros : List ℕ = replicate n 0 in get_or zeros i 0 ≡ 0
 all_zero zero i = refl
 all_zero (suc n) zero = refl
@@ -60,24 +73,24 @@ all_zero (suc n) (suc i) = all_zero n i
 nothing_owned : (place chunk : ℕ) → Owns 0 place newcomer chunk Unclaimed
 nothing_owned place chunk = record {
   claimed = refl;
-  stamp_is = λ id e. absurd cc;
-  stamped_is = λ id e. absurd cc;
-  held_is = λ id head e. absurd (some-ne-none _ (sym e));
-  writing_is = λ id head e. absurd cc;
-  completed_is = λ id content e above. absurd (some-ne-none _ (sym e));
-  ready_is = λ id content e. absurd cc;
-  reading_is = λ id content e. absurd cc;
+  stamp_is = λ position e. absurd cc;
+  stamped_is = λ position e. absurd cc;
+  held_is = λ position head e. absurd (some-ne-none _ (sym e));
+  writing_is = λ position head e. absurd cc;
+  completed_is = λ position content e above. absurd (some-ne-none _ (sym e));
+  ready_is = λ position content e. absurd cc;
+  reading_is = λ position content e. absurd cc;
 }
 
 nothing_counted : (place : ℕ) → Counts none_taken place newcomer
 nothing_counted place = record {
   wins = λ about. refl;
   next = λ stamp e. absurd cc;
-  named = λ id chunk content e. absurd (some-ne-none _ (sym e));
-  drafts = λ id chunk draft e. absurd (some-ne-none _ (sym e));
-  wholes = λ id chunk content e. absurd (some-ne-none _ (sym e));
-  completed = λ id below. absurd (omega arith);
-  learnt = λ id content e. absurd (some-ne-none _ (sym e));
+  named = λ position chunk content e. absurd (some-ne-none _ (sym e));
+  drafts = λ position chunk draft e. absurd (some-ne-none _ (sym e));
+  wholes = λ position chunk content e. absurd (some-ne-none _ (sym e));
+  completed = λ position below. absurd (omega arith);
+  learnt = λ position content e. absurd (some-ne-none _ (sym e));
   level = omega arith;
 }
 
@@ -118,7 +131,7 @@ first_kept setup slots o =
             });
         header = λ c below. subst (λ t. ShowsHeader setup (header_word setup words c) t) (sym (free c)) tt;
         slot = λ c below. let free_slot = o.each c below in
-            subst (λ t. ShowsSlot (spot setup c).payload_size t (stored_at slots c)) (sym (free c)) (record {
+            subst (λ t. ShowsSlot setup (spot setup c).payload_size t (stored_at slots c)) (sym (free c)) (record {
               room = let many = ap (λ (l : List ℕ). length l) free_slot.words ∙ length-replicate (((spot setup c).payload_size + 7) / 8) 0 in omega arith;
               words = tt;
               body = (free_slot.body, free_slot.body_is, free_slot.free);
@@ -151,7 +164,7 @@ first_sits setup place inside =
       stamped = refl;
       asked = λ i ask at. absurd (some-ne-none ask (sym at));
       claimed = λ chunk mine. absurd (omega arith);
-      begun = λ id entry at. absurd (some-ne-none entry (sym at));
+      begun = λ position entry at. absurd (some-ne-none entry (sym at));
     })
 
 pub first_serves : (setup : Setup) → IsServing setup (first_world setup).service

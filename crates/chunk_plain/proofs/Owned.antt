@@ -15,18 +15,18 @@ use Rattle.chunk_plain.proofs.Lists.{at_more, changed, matrix, times-both, same_
 abbrev pub Foreign : ℕ → Status → Type 0
 Foreign place Unclaimed = Unit {0}
 Foreign place (Claimed other) = other ≢ place
-Foreign place (Stamped other id) = other ≢ place
-Foreign place (Writing other id head) = other ≢ place
-Foreign place (Ready other id content) = other ≢ place
-Foreign place (Reading other id content) = other ≢ place
+Foreign place (Stamped other position) = other ≢ place
+Foreign place (Writing other position head) = other ≢ place
+Foreign place (Ready other position content) = other ≢ place
+Foreign place (Reading other position content) = other ≢ place
 
 pub claims_of-foreign : (place : ℕ) (is : Status) → Foreign place is → claims_of place is ≡ 0
 claims_of-foreign place Unclaimed other = refl
 claims_of-foreign place (Claimed mine) other = grind (arith, nat_tests)
-claims_of-foreign place (Stamped mine id) other = refl
-claims_of-foreign place (Writing mine id head) other = refl
-claims_of-foreign place (Ready mine id content) other = refl
-claims_of-foreign place (Reading mine id content) other = refl
+claims_of-foreign place (Stamped mine position) other = refl
+claims_of-foreign place (Writing mine position head) other = refl
+claims_of-foreign place (Ready mine position content) other = refl
+claims_of-foreign place (Reading mine position content) other = refl
 
 pub claims_of-mine : (place : ℕ) → claims_of place (Claimed place) ≡ 1
 claims_of-mine place = grind (arith, nat_tests)
@@ -38,23 +38,23 @@ claimed_status place (Claimed other) has =
     dite (ℕ_discrete other place)
     (λ same. ap (λ k. Claimed k) same)
     (λ differs. let none : claims_of place (Claimed other) ≡ 0 = claims_of-foreign place (Claimed other) differs in absurd (omega arith))
-claimed_status place (Stamped other id) has = absurd (omega arith)
-claimed_status place (Writing other id head) has = absurd (omega arith)
-claimed_status place (Ready other id content) has = absurd (omega arith)
-claimed_status place (Reading other id content) has = absurd (omega arith)
+claimed_status place (Stamped other position) has = absurd (omega arith)
+claimed_status place (Writing other position head) has = absurd (omega arith)
+claimed_status place (Ready other position content) has = absurd (omega arith)
+claimed_status place (Reading other position content) has = absurd (omega arith)
 
 -- another writer's facts on a chunk stay where the chunk was, and is, none of its own
 pub foreign_stays : (count place : ℕ) (view : WriterView) (chunk : ℕ) (was is : Status) → Foreign place was → Foreign place is → Owns count place view chunk was → Owns count place view chunk is
 foreign_stays count place view chunk was is before after o =
     record {
       claimed = o.claimed ∙ (claims_of-foreign place was before ∙ sym (claims_of-foreign place is after));
-      stamp_is = λ id e. absurd (subst (Foreign place) (o.stamp_is id e) before refl);
-      stamped_is = λ id e. absurd (subst (Foreign place) e after refl);
-      held_is = λ id head e. absurd (subst (Foreign place) (o.held_is id head e) before refl);
-      writing_is = λ id head e. absurd (subst (Foreign place) e after refl);
-      completed_is = λ id content e above. absurd (subst (Foreign place) (o.completed_is id content e above) before refl);
-      ready_is = λ id content e. absurd (subst (Foreign place) e after refl);
-      reading_is = λ id content e. absurd (subst (Foreign place) e after refl);
+      stamp_is = λ position e. absurd (subst (Foreign place) (o.stamp_is position e) before refl);
+      stamped_is = λ position e. absurd (subst (Foreign place) e after refl);
+      held_is = λ position head e. absurd (subst (Foreign place) (o.held_is position head e) before refl);
+      writing_is = λ position head e. absurd (subst (Foreign place) e after refl);
+      completed_is = λ position content e above. absurd (subst (Foreign place) (o.completed_is position content e above) before refl);
+      ready_is = λ position content e. absurd (subst (Foreign place) e after refl);
+      reading_is = λ position content e. absurd (subst (Foreign place) e after refl);
     }
 
 -- a won claim stays where the writer's claims are there still

@@ -90,17 +90,17 @@ stored_part copy first whole old new order within room so_far =
     (subst (λ bytes. StoredUpTo bytes 0 (length part) part new) (take_rest copy (8 * first)) so_far)))
 
 -- the words keep the bytes of the finished fragments, whichever of them were stored
-pub sealed_stays : (view : WriterView) (id first index : ℕ) (copy words : List ℕ) → KeepsSealed view id copy → StoredUpTo copy first index (draft_at view id).words words
-    → (j : ℕ) → j < sealed_to (draft_at view id).ends → byte_at words j ≡ byte_at (draft_at view id).words j
-sealed_stays view id first index copy words keeps stored j below =
+pub sealed_stays : (view : WriterView) (position first index : ℕ) (copy words : List ℕ) → KeepsSealed view position copy → StoredUpTo copy first index (draft_at view position).words words
+    → (j : ℕ) → j < sealed_to (draft_at view position).ends → byte_at words j ≡ byte_at (draft_at view position).words j
+sealed_stays view position first index copy words keeps stored j below =
     let kept = keeps j below in
     ⊎_elim (λ as_before. as_before) (λ of_copy. of_copy ∙ sym kept.1) (stored.others j kept.0)
 
 -- where the writer stands then
-pub drafted_view : (world next : World) (place chunk id : ℕ) (draft : Draft) → next ≡ drafted world place chunk id draft → place < length world.writers
-    → writer next place ≡ redrafts (writer world place) chunk id draft
-drafted_view world next place chunk id draft is inside =
-    ap (λ (w : World). writer w place) is ∙ get_or-set_same world.writers place (redrafts (writer world place) chunk id draft) newcomer inside
+pub drafted_view : (world next : World) (place chunk position : ℕ) (draft : Draft) → next ≡ drafted world place chunk position draft → place < length world.writers
+    → writer next place ≡ redrafts (writer world place) chunk position draft
+drafted_view world next place chunk position draft is inside =
+    ap (λ (w : World). writer w place) is ∙ get_or-set_same world.writers place (redrafts (writer world place) chunk position draft) newcomer inside
 
 -- all words of a range of bytes were stored
 pub published_range : (copy old new : List ℕ) (from to end : ℕ) → from ≤ to → to ≤ length copy → (from < to → to ≤ 8 * end) → StoredUpTo copy (from / 8) end old new → Publishes copy from to old new

@@ -68,23 +68,23 @@ module _ (setup : Setup) (place : ℕ) (view : WriterView) (rests : IsAtRest set
     claimed = λ other has. rests.claimed other (dite (ℕ_discrete other chunk)
         (λ same. subst (λ d. 0 < times d view.claimed) (sym same) mine)
         (λ differs. let fewer = times-without_other other chunk view.claimed differs in omega arith));
-    begun = λ id entry at. ⊎_elim
-        (λ old. rests.begun id entry old)
+    begun = λ position entry at. ⊎_elim
+        (λ old. rests.begun position entry old)
         (λ new. subst (λ (e : BegunChunk). IsChunkOf setup (producer_of setup place) (chunk_of e)) new.1 (rests.claimed chunk mine))
-        (at_more view.begun (Held chunk (fresh words)) entry id at);
+        (at_more view.begun (Held chunk (fresh words)) entry position at);
   }
 
   -- another entry for a held chunk
-  pub entry_rest : (chunk id : ℕ) (entry : BegunChunk) → IsHolding view chunk id → chunk_of entry ≡ chunk → IsAtRest setup place (record view { begun = set view.begun id entry })
-  entry_rest chunk id entry holding same = record {
+  pub entry_rest : (chunk position : ℕ) (entry : BegunChunk) → IsHolding view chunk position → chunk_of entry ≡ chunk → IsAtRest setup place (record view { begun = set view.begun position entry })
+  entry_rest chunk position entry holding same = record {
     inside = rests.inside;
     stamped = rests.stamped;
     asked = rests.asked;
     claimed = rests.claimed;
     begun = λ i other at. ⊎_elim
-        (λ new. subst (λ (e : BegunChunk). IsChunkOf setup (producer_of setup place) (chunk_of e)) new.1 (subst (IsChunkOf setup (producer_of setup place)) (sym same) (rests.begun id (Held chunk (draft_at view id)) holding)))
+        (λ new. subst (λ (e : BegunChunk). IsChunkOf setup (producer_of setup place) (chunk_of e)) new.1 (subst (IsChunkOf setup (producer_of setup place)) (sym same) (rests.begun position (Held chunk (draft_at view position)) holding)))
         (λ old. rests.begun i other old.1)
-        (at_set view.begun id i entry other at);
+        (at_set view.begun position i entry other at);
   }
 
   pub noted_rest : (calls : List Call) (letters : Letters) → IsAtRest setup place (record view { calls = calls; letters = letters })
@@ -111,14 +111,14 @@ takes_serving setup view place chunk content serving inside =
     }
 
 -- the view and what stands in the chunk, as a table tells them after a step on a held chunk
-pub told_drafted : (world next : World) (place chunk id : ℕ) (draft : Draft) → place < length world.writers → IsHolding (writer world place) chunk id
-    → next ≡ moved world place (redrafts (writer world place) chunk id draft) chunk (Writing place id draft)
-    → next ≡ moved world place (writer next place) chunk (Writing place id (draft_at (writer next place) id))
-told_drafted world next place chunk id draft inside holding is =
-    let view = redrafts (writer world place) chunk id draft in
+pub told_drafted : (world next : World) (place chunk position : ℕ) (draft : Draft) → place < length world.writers → IsHolding (writer world place) chunk position
+    → next ≡ moved world place (redrafts (writer world place) chunk position draft) chunk (Writing place position draft)
+    → next ≡ moved world place (writer next place) chunk (Writing place position (draft_at (writer next place) position))
+told_drafted world next place chunk position draft inside holding is =
+    let view = redrafts (writer world place) chunk position draft in
     let view_is : writer next place ≡ view = ap (λ (w : World). writer w place) is ∙ get_or-set_same world.writers place view newcomer inside in
-    let draft_is : draft_at (writer next place) id ≡ draft = ap (λ v. draft_at v id) view_is ∙ redrafts_draft (writer world place) chunk id draft holding in
-    is ∙ (ap (λ d. moved world place view chunk (Writing place id d)) (sym draft_is) ∙ ap (λ v. moved world place v chunk (Writing place id (draft_at (writer next place) id))) (sym view_is))
+    let draft_is : draft_at (writer next place) position ≡ draft = ap (λ v. draft_at v position) view_is ∙ redrafts_draft (writer world place) chunk position draft holding in
+    is ∙ (ap (λ d. moved world place view chunk (Writing place position d)) (sym draft_is) ∙ ap (λ v. moved world place v chunk (Writing place position (draft_at (writer next place) position))) (sym view_is))
 
 -- the two steps of a begin, as one
 pub begun_world : (world middle next : World) (place chunk : ℕ) (words : List ℕ) → place < length world.writers

@@ -27,14 +27,14 @@ takes_owned world place chunk content o inside_w inside_c was =
     (matrix (λ u (x : Taken) d t. Owns x.count u (writer world u) d t) s.taken world.chunks none_taken Unclaimed place chunk more is inside_t inside_c o.owns
     record {
       claimed = w.claimed ∙ ap (claims_of place) was;
-      stamp_is = λ id e. let before = w.stamp_is id e in absurd cc;
-      stamped_is = λ id e. absurd cc;
-      held_is = λ id head e. let before = w.held_is id head e in absurd cc;
-      writing_is = λ id head e. absurd cc;
-      completed_is = λ id other e above. absurd (let below : count ≤ id = omega arith in let before = w.completed_is id other e below in let same : count ≡ id = cc in omega arith);
-      ready_is = λ id other e. absurd cc;
-      reading_is = λ id other e. let same : count ≡ id = cc in let entry : content ≡ other = cc in
-          (subst (λ (m : Content). At v.begun id (Completed chunk m)) entry (subst (λ (i : ℕ). At v.begun i (Completed chunk content)) same at), omega arith);
+      stamp_is = λ position e. let before = w.stamp_is position e in absurd cc;
+      stamped_is = λ position e. absurd cc;
+      held_is = λ position head e. let before = w.held_is position head e in absurd cc;
+      writing_is = λ position head e. absurd cc;
+      completed_is = λ position other e above. absurd (let below : count ≤ position = omega arith in let before = w.completed_is position other e below in let same : count ≡ position = cc in omega arith);
+      ready_is = λ position other e. absurd cc;
+      reading_is = λ position other e. let same : count ≡ position = cc in let entry : content ≡ other = cc in
+          (subst (λ (m : Content). At v.begun position (Completed chunk m)) entry (subst (λ (i : ℕ). At v.begun i (Completed chunk content)) same at), omega arith);
     }
     (λ other differs p. record {
       claimed = p.claimed;
@@ -42,14 +42,14 @@ takes_owned world place chunk content o inside_w inside_c was =
       stamped_is = p.stamped_is;
       held_is = p.held_is;
       writing_is = p.writing_is;
-      completed_is = λ id m e above. p.completed_is id m e (omega arith);
-      ready_is = λ id m e. let r = p.ready_is id m e in (
+      completed_is = λ position m e above. p.completed_is position m e (omega arith);
+      ready_is = λ position m e. let r = p.ready_is position m e in (
         r.0,
-        dite (ℕ_discrete id count)
+        dite (ℕ_discrete position count)
             (λ same. absurd (differs (sym (ap completed_chunk (at_one v.begun (Completed chunk content) (Completed other m) count at (subst (λ (i : ℕ). At v.begun i (Completed other m)) same r.0))))))
             (λ apart. let least = r.1 in omega arith),
       );
-      reading_is = λ id m e. let r = p.reading_is id m e in (r.0, (let below = r.1 in omega arith));
+      reading_is = λ position m e. let r = p.reading_is position m e in (r.0, (let below = r.1 in omega arith));
     })
     (λ other differs p. foreign_stays (taken_of s other).count other (writer world other) chunk (status world chunk) is (subst (Foreign other) (sym was) (λ e. differs (sym e))) (λ e. differs (sym e)) p))
     (λ other. changed (λ (x : Taken). Counts x other (writer world other)) s.taken place other more none_taken inside_t
@@ -61,7 +61,7 @@ takes_owned world place chunk content o inside_w inside_c was =
       drafts = q.drafts;
       wholes = q.wholes;
       learnt = q.learnt;
-      completed = λ id below. dite (ℕ_discrete id count) (λ is_last. (chunk, content, subst (λ (i : ℕ). At v.begun i (Completed chunk content)) (sym is_last) at)) (λ apart. q.completed id (omega arith));
+      completed = λ position below. dite (ℕ_discrete position count) (λ is_last. (chunk, content, subst (λ (i : ℕ). At v.begun i (Completed chunk content)) (sym is_last) at)) (λ apart. q.completed position (omega arith));
       level = let level = q.level in omega arith;
     })
     (λ _. o.counts other))
@@ -94,10 +94,10 @@ learns_owned world place chunk content o inside_w room at =
             drafts = q.drafts;
             wholes = q.wholes;
             completed = q.completed;
-            learnt = λ id m e. ⊎_elim
-                (λ old. q.learnt id m old)
-                (λ (new : (id ≡ length taken.contents) × (content ≡ m)). (chunk, subst (λ (c : Content). At v.begun id (Completed chunk c)) new.1 (subst (λ (i : ℕ). At v.begun i (Completed chunk content)) (sym new.0) at)))
-                (at_more taken.contents content m id e);
+            learnt = λ position m e. ⊎_elim
+                (λ old. q.learnt position m old)
+                (λ (new : (position ≡ length taken.contents) × (content ≡ m)). (chunk, subst (λ (c : Content). At v.begun position (Completed chunk c)) new.1 (subst (λ (i : ℕ). At v.begun i (Completed chunk content)) (sym new.0) at)))
+                (at_more taken.contents content m position e);
             level = omega (arith, length-append taken.contents (content ∷ []));
           })
           (λ _. o.counts u);
@@ -109,8 +109,8 @@ learns_owned world place chunk content o inside_w room at =
     }
 
 -- a chunk that is free again is nobody's, where the service had it
-emptied : (count place : ℕ) (view : WriterView) (chunk : ℕ) (was : Status) (of id : ℕ) (content : Content) → was ≡ Reading of id content → Owns count place view chunk was → Owns count place view chunk Unclaimed
-emptied count place view chunk was of id content reading p =
+emptied : (count place : ℕ) (view : WriterView) (chunk : ℕ) (was : Status) (of position : ℕ) (content : Content) → was ≡ Reading of position content → Owns count place view chunk was → Owns count place view chunk Unclaimed
+emptied count place view chunk was of position content reading p =
     record {
       claimed = p.claimed ∙ ap (claims_of place) reading;
       stamp_is = λ i e. let before = p.stamp_is i e in absurd cc;
@@ -123,14 +123,14 @@ emptied count place view chunk was of id content reading p =
     }
 
 -- the service gives a chunk back
-pub lets_go_owned : (world : World) (chunk place id : ℕ) (content : Content) → IsOwned world → chunk < length world.chunks → status world chunk ≡ Reading place id content
+pub lets_go_owned : (world : World) (chunk place position : ℕ) (content : Content) → IsOwned world → chunk < length world.chunks → status world chunk ≡ Reading place position content
     → IsOwned (served world (lets_go world.service chunk) chunk Unclaimed)
-lets_go_owned world chunk place id content o inside was =
+lets_go_owned world chunk place position content o inside was =
     let s = world.service in
     let once : times chunk s.reading ≡ 1 = o.reads chunk ∙ ap reads_of was in
     service_step world (lets_go s chunk) chunk Unclaimed o inside
     (λ u d. changed (λ t. Owns (taken_of s u).count u (writer world u) d t) world.chunks chunk d Unclaimed Unclaimed inside
-    (λ same. subst (λ (c : ℕ). Owns (taken_of s u).count u (writer world u) c Unclaimed) (sym same) (emptied (taken_of s u).count u (writer world u) chunk (status world chunk) place id content was (o.owns u chunk)))
+    (λ same. subst (λ (c : ℕ). Owns (taken_of s u).count u (writer world u) c Unclaimed) (sym same) (emptied (taken_of s u).count u (writer world u) chunk (status world chunk) place position content was (o.owns u chunk)))
     (λ _. o.owns u d))
     o.counts
     (λ d. changed (λ t. times d (without chunk s.reading) ≡ reads_of t) world.chunks chunk d Unclaimed Unclaimed inside

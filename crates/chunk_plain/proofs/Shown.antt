@@ -77,7 +77,7 @@ pub shown_turn : (setup : Setup) (words : List ℕ) (slots : List Stored) (world
     → KeepsOthers (page_word setup words chunk) page (spot setup chunk).place
     → ShowsPage setup next (spot setup chunk) page (status next chunk)
     → ShowsHeader setup header (status next chunk)
-    → ShowsSlot (spot setup chunk).payload_size (status next chunk) slot
+    → ShowsSlot setup (spot setup chunk).payload_size (status next chunk) slot
     → IsShown setup (set (set words (spot setup chunk).page page) (setup.pages + chunk) header) (set slots chunk slot) next
 shown_turn setup words slots world next chunk page header slot laid shown inside same_length others never keeps here_page here_header here_slot =
     let at = spot setup chunk in
@@ -97,10 +97,10 @@ shown_turn setup words slots world next chunk page header slot laid shown inside
           (sym (get_or-set_other one (setup.pages + chunk) (setup.pages + d) header 0 (λ e. differs (omega arith)) ∙ get_or-set_other words at.page (setup.pages + d) page 0 (let low = laid.page chunk inside in omega arith)))
           (subst (λ t. ShowsHeader setup (header_word setup words d) t) (sym (others d differs)) (shown.header d below)));
       slot = λ d below. dite (ℕ_discrete d chunk)
-          (λ same. subst (λ e. ShowsSlot (spot setup e).payload_size (status next e) (get_or (set slots chunk slot) e nothing_stored)) (sym same)
-          (subst (λ b. ShowsSlot at.payload_size (status next chunk) b) (sym (get_or-set_same slots chunk slot nothing_stored (let deep = shown.slot_count in omega arith))) here_slot))
-          (λ differs. subst (λ b. ShowsSlot (spot setup d).payload_size (status next d) b) (sym (get_or-set_other slots chunk d slot nothing_stored differs))
-          (subst (λ t. ShowsSlot (spot setup d).payload_size t (stored_at slots d)) (sym (others d differs)) (shown.slot d below)));
+          (λ same. subst (λ e. ShowsSlot setup (spot setup e).payload_size (status next e) (get_or (set slots chunk slot) e nothing_stored)) (sym same)
+          (subst (λ b. ShowsSlot setup at.payload_size (status next chunk) b) (sym (get_or-set_same slots chunk slot nothing_stored (let deep = shown.slot_count in omega arith))) here_slot))
+          (λ differs. subst (λ b. ShowsSlot setup (spot setup d).payload_size (status next d) b) (sym (get_or-set_other slots chunk d slot nothing_stored differs))
+          (subst (λ t. ShowsSlot setup (spot setup d).payload_size t (stored_at slots d)) (sym (others d differs)) (shown.slot d below)));
     }
 
 keeps_same : (word place : ℕ) → KeepsOthers word word place
@@ -114,7 +114,7 @@ pub shown_page : (setup : Setup) (words : List ℕ) (slots : List Stored) (world
     → KeepsOthers (page_word setup words chunk) page (spot setup chunk).place
     → ShowsPage setup next (spot setup chunk) page (status next chunk)
     → ShowsHeader setup (header_word setup words chunk) (status next chunk)
-    → ShowsSlot (spot setup chunk).payload_size (status next chunk) slot
+    → ShowsSlot setup (spot setup chunk).payload_size (status next chunk) slot
     → IsShown setup (set words (spot setup chunk).page page) (set slots chunk slot) next
 shown_page setup words slots world next chunk page slot laid shown inside same_length others never keeps here_page here_header here_slot =
     let one = set words (spot setup chunk).page page in
@@ -131,7 +131,7 @@ pub shown_page_only : (setup : Setup) (words : List ℕ) (slots : List Stored) (
     → KeepsOthers (page_word setup words chunk) page (spot setup chunk).place
     → ShowsPage setup next (spot setup chunk) page (status next chunk)
     → ShowsHeader setup (header_word setup words chunk) (status next chunk)
-    → ShowsSlot (spot setup chunk).payload_size (status next chunk) (stored_at slots chunk)
+    → ShowsSlot setup (spot setup chunk).payload_size (status next chunk) (stored_at slots chunk)
     → IsShown setup (set words (spot setup chunk).page page) slots next
 shown_page_only setup words slots world next chunk page laid shown inside same_length others never keeps here_page here_header here_slot =
     subst (λ l. IsShown setup (set words (spot setup chunk).page page) l next) (set-get_or slots chunk nothing_stored)
@@ -144,7 +144,7 @@ pub shown_header : (setup : Setup) (words : List ℕ) (slots : List Stored) (wor
     → ((number : ℕ) → number ≢ (spot setup chunk).page → NeverAsked setup world number → NeverAsked setup next number)
     → ShowsPage setup next (spot setup chunk) (page_word setup words chunk) (status next chunk)
     → ShowsHeader setup header (status next chunk)
-    → ShowsSlot (spot setup chunk).payload_size (status next chunk) (stored_at slots chunk)
+    → ShowsSlot setup (spot setup chunk).payload_size (status next chunk) (stored_at slots chunk)
     → IsShown setup (set words (setup.pages + chunk) header) slots next
 shown_header setup words slots world next chunk header laid shown inside same_length others never here_page here_header here_slot =
     subst (λ l. IsShown setup (set words (setup.pages + chunk) header) l next) (set-get_or slots chunk nothing_stored)
@@ -158,7 +158,7 @@ pub shown_slot : (setup : Setup) (words : List ℕ) (slots : List Stored) (world
     → ((number : ℕ) → number ≢ (spot setup chunk).page → NeverAsked setup world number → NeverAsked setup next number)
     → ShowsPage setup next (spot setup chunk) (page_word setup words chunk) (status next chunk)
     → ShowsHeader setup (header_word setup words chunk) (status next chunk)
-    → ShowsSlot (spot setup chunk).payload_size (status next chunk) slot
+    → ShowsSlot setup (spot setup chunk).payload_size (status next chunk) slot
     → IsShown setup words (set slots chunk slot) next
 shown_slot setup words slots world next chunk slot laid shown inside same_length others never here_page here_header here_slot =
     subst (λ l. IsShown setup l (set slots chunk slot) next) (set-get_or words (spot setup chunk).page 0)

@@ -7,7 +7,7 @@ use Rattle.chunk_plain.specs.World.{Status, Unclaimed, Claimed, Stamped, Writing
 use Rattle.chunk_plain.specs.Shows.{state_of, claim_of}
 
 -- a claimed chunk that is free in its page word
-pub claimed_free : (is : Status) (word place : ℕ) → HasState word place (state_of is) → HasState word place state.Free → claim_of is ≡ 1 → ((k : ℕ) × (is ≡ Claimed k)) ⊎ ((k id : ℕ) × (is ≡ Stamped k id))
+pub claimed_free : (is : Status) (word place : ℕ) → HasState word place (state_of is) → HasState word place state.Free → claim_of is ≡ 1 → ((k : ℕ) × (is ≡ Claimed k)) ⊎ ((k position : ℕ) × (is ≡ Stamped k position))
 claimed_free Unclaimed word place has free one = absurd (omega arith)
 claimed_free (Claimed k) word place has free one = inl (k, refl)
 claimed_free (Stamped k i) word place has free one = inr (k, i, refl)
@@ -15,7 +15,7 @@ claimed_free (Writing k i h) word place has free one = absurd (let low = has.low
 claimed_free (Ready k i m) word place has free one = absurd (let low = has.low in let low' = free.low in omega arith)
 claimed_free (Reading k i m) word place has free one = absurd (let high = has.high in let high' = free.high in omega arith)
 
-pub writing_status : (is : Status) (word place : ℕ) → HasState word place (state_of is) → HasState word place state.BeingWritten → (k id : ℕ) × (draft : Draft) × (is ≡ Writing k id draft)
+pub writing_status : (is : Status) (word place : ℕ) → HasState word place (state_of is) → HasState word place state.BeingWritten → (k position : ℕ) × (draft : Draft) × (is ≡ Writing k position draft)
 writing_status Unclaimed word place has free = absurd (let low = has.low in let low' = free.low in omega arith)
 writing_status (Claimed k) word place has free = absurd (let low = has.low in let low' = free.low in omega arith)
 writing_status (Stamped k i) word place has free = absurd (let low = has.low in let low' = free.low in omega arith)
@@ -23,7 +23,7 @@ writing_status (Writing k i h) word place has free = (k, i, h, refl)
 writing_status (Ready k i m) word place has free = absurd (let high = has.high in let high' = free.high in omega arith)
 writing_status (Reading k i m) word place has free = absurd (let high = has.high in let high' = free.high in omega arith)
 
-pub reading_status : (is : Status) (word place : ℕ) → HasState word place (state_of is) → HasState word place state.BeingRead → (k id : ℕ) × (content : Content) × (is ≡ Reading k id content)
+pub reading_status : (is : Status) (word place : ℕ) → HasState word place (state_of is) → HasState word place state.BeingRead → (k position : ℕ) × (content : Content) × (is ≡ Reading k position content)
 reading_status Unclaimed word place has free = absurd (let high = has.high in let high' = free.high in omega arith)
 reading_status (Claimed k) word place has free = absurd (let high = has.high in let high' = free.high in omega arith)
 reading_status (Stamped k i) word place has free = absurd (let high = has.high in let high' = free.high in omega arith)
@@ -32,7 +32,7 @@ reading_status (Ready k i m) word place has free = absurd (let low = has.low in 
 reading_status (Reading k i m) word place has free = (k, i, m, refl)
 
 -- a chunk whose state is complete is ready
-pub ready_status : (is : Status) (word place : ℕ) → HasState word place (state_of is) → HasState word place state.Complete → (k : ℕ) × (id : ℕ) × (content : Content) × (is ≡ Ready k id content)
+pub ready_status : (is : Status) (word place : ℕ) → HasState word place (state_of is) → HasState word place state.Complete → (k : ℕ) × (position : ℕ) × (content : Content) × (is ≡ Ready k position content)
 ready_status Unclaimed word place has complete = absurd (let low = has.low in let low' = complete.low in omega arith)
 ready_status (Claimed k) word place has complete = absurd (let low = has.low in let low' = complete.low in omega arith)
 ready_status (Stamped k i) word place has complete = absurd (let low = has.low in let low' = complete.low in omega arith)

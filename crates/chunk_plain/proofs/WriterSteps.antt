@@ -15,14 +15,14 @@ use Rattle.chunk_plain.proofs.Lists.{times-append, times-here, times-other, time
 use Rattle.chunk_plain.proofs.AskOrder.{order_stays, order_grows}
 use Rattle.chunk_plain.proofs.Owned.{Foreign, claims_of-mine, claimed_status, writer_step, noted_owned, won_stays}
 
--- a stamp's chunk and id, where there is one
+-- a stamp's chunk and position, where there is one
 abbrev chunk_in : ℕ → Option Stamp → ℕ
 chunk_in default None = default
 chunk_in default (Some stamp) = stamp.chunk
 
-abbrev id_in : ℕ → Option Stamp → ℕ
-id_in default None = default
-id_in default (Some stamp) = stamp.id
+abbrev position_in : ℕ → Option Stamp → ℕ
+position_in default None = default
+position_in default (Some stamp) = stamp.position
 
 won_by : (b : Bool) (x y : ℕ) (more less : List ℕ) → more ≡ less ++ y ∷ [] → cond b (x ∷ more) more ≡ cond b (x ∷ less) less ++ y ∷ []
 won_by true x y more less e = ap (λ (l : List ℕ). x ∷ l) e
@@ -61,13 +61,13 @@ claims_owned world place chunk found o inside_w inside_c free =
     writer_step world place chunk (claims v chunk found true) (Claimed place) o inside_w inside_c
     record {
       claimed = times-here chunk v.claimed ∙ (ap (λ n. n + 1) none ∙ sym (claims_of-mine place));
-      stamp_is = λ id e. let was = w.stamp_is id e in absurd cc;
-      stamped_is = λ id e. absurd cc;
-      held_is = λ id head e. let was = w.held_is id head e in absurd cc;
-      writing_is = λ id head e. absurd cc;
-      completed_is = λ id content e above. let was = w.completed_is id content e above in absurd cc;
-      ready_is = λ id content e. absurd cc;
-      reading_is = λ id content e. absurd cc;
+      stamp_is = λ position e. let was = w.stamp_is position e in absurd cc;
+      stamped_is = λ position e. absurd cc;
+      held_is = λ position head e. let was = w.held_is position head e in absurd cc;
+      writing_is = λ position head e. absurd cc;
+      completed_is = λ position content e above. let was = w.completed_is position content e above in absurd cc;
+      ready_is = λ position content e. absurd cc;
+      reading_is = λ position content e. absurd cc;
     }
     (λ other differs p. record { claimed = times-other other chunk v.claimed differs ∙ p.claimed; stamp_is = p.stamp_is; stamped_is = p.stamped_is; held_is = p.held_is; writing_is = p.writing_is; completed_is = p.completed_is; ready_is = p.ready_is; reading_is = p.reading_is })
     (λ other _. subst (Foreign other) (sym free) tt)
@@ -130,18 +130,18 @@ stamps_owned world place chunk o inside_w inside_c mine unstamped =
     writer_step world place chunk (stamps v chunk) (Stamped place n) o inside_w inside_c
     record {
       claimed = omega (arith, times-without_same chunk v.claimed mine);
-      stamp_is = λ id e. ap (λ (i : ℕ). Stamped place i) (ap (id_in n) e);
-      stamped_is = λ id e. let same : n ≡ id = cc in ap (λ (i : ℕ). let x : Option Stamp = Some (record { chunk = chunk; id = i }) in x) same;
-      held_is = λ id head e. let before = w.held_is id head e in absurd cc;
-      writing_is = λ id head e. absurd cc;
-      completed_is = λ id content e above. let before = w.completed_is id content e above in absurd cc;
-      ready_is = λ id content e. absurd cc;
-      reading_is = λ id content e. absurd cc;
+      stamp_is = λ position e. ap (λ (i : ℕ). Stamped place i) (ap (position_in n) e);
+      stamped_is = λ position e. let same : n ≡ position = cc in ap (λ (i : ℕ). let x : Option Stamp = Some (record { chunk = chunk; position = i }) in x) same;
+      held_is = λ position head e. let before = w.held_is position head e in absurd cc;
+      writing_is = λ position head e. absurd cc;
+      completed_is = λ position content e above. let before = w.completed_is position content e above in absurd cc;
+      ready_is = λ position content e. absurd cc;
+      reading_is = λ position content e. absurd cc;
     }
     (λ other differs p. record {
       claimed = times-without_other other chunk v.claimed differs ∙ p.claimed;
-      stamp_is = λ id e. absurd (differs (sym (ap (chunk_in chunk) e)));
-      stamped_is = λ id e. let before : v.stamped ≡ Some (record { chunk = other; id = id }) = p.stamped_is id e in absurd cc;
+      stamp_is = λ position e. absurd (differs (sym (ap (chunk_in chunk) e)));
+      stamped_is = λ position e. let before : v.stamped ≡ Some (record { chunk = other; position = position }) = p.stamped_is position e in absurd cc;
       held_is = p.held_is;
       writing_is = p.writing_is;
       completed_is = p.completed_is;
@@ -154,7 +154,7 @@ stamps_owned world place chunk o inside_w inside_c mine unstamped =
     record {
       wins = λ about. let none : times about (stamped_chunks v.stamped) ≡ 0 = ap (λ (s : Option Stamp). times about (stamped_chunks s)) unstamped in
           let moves = claimed_moves about chunk v.claimed mine in omega (arith, moves, none, q.wins about);
-      next = λ stamp e. sym (ap (id_in n) e);
+      next = λ stamp e. sym (ap (position_in n) e);
       named = q.named;
       drafts = q.drafts;
       wholes = q.wholes;
@@ -169,7 +169,7 @@ stamps_owned world place chunk o inside_w inside_c mine unstamped =
 
 -- the chunk whose header was stored is begun
 pub begins_owned : (world : World) (place chunk : ℕ) (words : List ℕ) → IsOwned world → place < length world.writers → chunk < length world.chunks
-    → (writer world place).stamped ≡ Some (record { chunk = chunk; id = length (writer world place).begun })
+    → (writer world place).stamped ≡ Some (record { chunk = chunk; position = length (writer world place).begun })
     → IsOwned (moved world place (begins (writer world place) chunk words) chunk (Writing place (length (writer world place).begun) (fresh words)))
 begins_owned world place chunk words o inside_w inside_c stamped =
     let v = writer world place in let w = o.owns place chunk in let q = o.counts place in let n = length v.begun in
@@ -177,29 +177,29 @@ begins_owned world place chunk words o inside_w inside_c stamped =
     writer_step world place chunk (begins v chunk words) (Writing place n (fresh words)) o inside_w inside_c
     record {
       claimed = w.claimed ∙ ap (claims_of place) was;
-      stamp_is = λ id e. absurd cc;
-      stamped_is = λ id e. absurd cc;
-      held_is = λ id head e. ⊎_elim
-          (λ old. let before = w.held_is id head old in absurd cc)
+      stamp_is = λ position e. absurd cc;
+      stamped_is = λ position e. absurd cc;
+      held_is = λ position head e. ⊎_elim
+          (λ old. let before = w.held_is position head old in absurd cc)
           (λ new. let same = new.0 in let entry = new.1 in cc)
-          (at_more v.begun (Held chunk (fresh words)) (Held chunk head) id e);
-      writing_is = λ id head e. let same : n ≡ id = cc in let entry : Held chunk (fresh words) ≡ Held chunk head = cc in subst (λ (b : BegunChunk). At (v.begun ++ Held chunk (fresh words) ∷ []) id b) entry (at_last v.begun (Held chunk (fresh words)) id same);
-      completed_is = λ id content e above. ⊎_elim
-          (λ old. let before = w.completed_is id content old above in absurd cc)
+          (at_more v.begun (Held chunk (fresh words)) (Held chunk head) position e);
+      writing_is = λ position head e. let same : n ≡ position = cc in let entry : Held chunk (fresh words) ≡ Held chunk head = cc in subst (λ (b : BegunChunk). At (v.begun ++ Held chunk (fresh words) ∷ []) position b) entry (at_last v.begun (Held chunk (fresh words)) position same);
+      completed_is = λ position content e above. ⊎_elim
+          (λ old. let before = w.completed_is position content old above in absurd cc)
           (λ new. let entry = new.1 in absurd cc)
-          (at_more v.begun (Held chunk (fresh words)) (Completed chunk content) id e);
-      ready_is = λ id content e. absurd cc;
-      reading_is = λ id content e. absurd cc;
+          (at_more v.begun (Held chunk (fresh words)) (Completed chunk content) position e);
+      ready_is = λ position content e. absurd cc;
+      reading_is = λ position content e. absurd cc;
     }
     (λ other differs p. record {
       claimed = p.claimed;
-      stamp_is = λ id e. absurd cc;
-      stamped_is = λ id e. absurd (differs (ap (chunk_in chunk) (sym (p.stamped_is id e) ∙ stamped)));
-      held_is = λ id head e. ⊎_elim (λ old. p.held_is id head old) (λ new. let entry = new.1 in absurd (differs cc)) (at_more v.begun (Held chunk (fresh words)) (Held other head) id e);
-      writing_is = λ id head e. at_longer v.begun (Held chunk (fresh words) ∷ []) id (Held other head) (p.writing_is id head e);
-      completed_is = λ id content e above. ⊎_elim (λ old. p.completed_is id content old above) (λ new. let entry = new.1 in absurd cc) (at_more v.begun (Held chunk (fresh words)) (Completed other content) id e);
-      ready_is = λ id content e. let r = p.ready_is id content e in (at_longer v.begun (Held chunk (fresh words) ∷ []) id (Completed other content) r.0, r.1);
-      reading_is = λ id content e. let r = p.reading_is id content e in (at_longer v.begun (Held chunk (fresh words) ∷ []) id (Completed other content) r.0, r.1);
+      stamp_is = λ position e. absurd cc;
+      stamped_is = λ position e. absurd (differs (ap (chunk_in chunk) (sym (p.stamped_is position e) ∙ stamped)));
+      held_is = λ position head e. ⊎_elim (λ old. p.held_is position head old) (λ new. let entry = new.1 in absurd (differs cc)) (at_more v.begun (Held chunk (fresh words)) (Held other head) position e);
+      writing_is = λ position head e. at_longer v.begun (Held chunk (fresh words) ∷ []) position (Held other head) (p.writing_is position head e);
+      completed_is = λ position content e above. ⊎_elim (λ old. p.completed_is position content old above) (λ new. let entry = new.1 in absurd cc) (at_more v.begun (Held chunk (fresh words)) (Completed other content) position e);
+      ready_is = λ position content e. let r = p.ready_is position content e in (at_longer v.begun (Held chunk (fresh words) ∷ []) position (Completed other content) r.0, r.1);
+      reading_is = λ position content e. let r = p.reading_is position content e in (at_longer v.begun (Held chunk (fresh words) ∷ []) position (Completed other content) r.0, r.1);
     })
     (λ other differs. subst (Foreign other) (sym was) (λ e. differs (sym e)))
     (λ other differs e. differs (sym e))
@@ -209,17 +209,17 @@ begins_owned world place chunk words o inside_w inside_c stamped =
           let more = ap (times about) (map-append chunk_of v.begun (Held chunk (fresh words) ∷ [])) ∙ times-append about chunk (map chunk_of v.begun) in
           omega (arith, one, more, q.wins about);
       next = λ stamp e. absurd cc;
-      named = λ id c content e. ⊎_elim (λ old. q.named id c content old) (λ new. let entry = new.1 in absurd cc) (at_more v.begun (Held chunk (fresh words)) (Completed c content) id e);
-      drafts = λ id c draft e. ⊎_elim
-          (λ old. q.drafts id c draft old)
+      named = λ position c content e. ⊎_elim (λ old. q.named position c content old) (λ new. let entry = new.1 in absurd cc) (at_more v.begun (Held chunk (fresh words)) (Completed c content) position e);
+      drafts = λ position c draft e. ⊎_elim
+          (λ old. q.drafts position c draft old)
           (λ new. let same : fresh words ≡ draft = cc in subst IsDraft same (record { count = refl; reads = λ k below. absurd (omega arith) }))
-          (at_more v.begun (Held chunk (fresh words)) (Held c draft) id e);
-      wholes = λ id c content e. ⊎_elim (λ old. q.wholes id c content old) (λ new. let entry = new.1 in absurd cc) (at_more v.begun (Held chunk (fresh words)) (Completed c content) id e);
-      completed = λ id below. let r = q.completed id below in (r.0, r.1, at_longer v.begun (Held chunk (fresh words) ∷ []) id (Completed r.0 r.1) r.2);
-      learnt = λ id content e. let r = q.learnt id content e in (r.0, at_longer v.begun (Held chunk (fresh words) ∷ []) id (Completed r.0 content) r.1);
+          (at_more v.begun (Held chunk (fresh words)) (Held c draft) position e);
+      wholes = λ position c content e. ⊎_elim (λ old. q.wholes position c content old) (λ new. let entry = new.1 in absurd cc) (at_more v.begun (Held chunk (fresh words)) (Completed c content) position e);
+      completed = λ position below. let r = q.completed position below in (r.0, r.1, at_longer v.begun (Held chunk (fresh words) ∷ []) position (Completed r.0 r.1) r.2);
+      learnt = λ position content e. let r = q.learnt position content e in (r.0, at_longer v.begun (Held chunk (fresh words) ∷ []) position (Completed r.0 content) r.1);
       level = q.level;
     }
     (λ i ask at. at)
     (order_stays world.writers place (begins v chunk words) o.ordered inside_w refl)
     (won_stays world place chunk chunk (begins v chunk words) (Writing place n (fresh words)) inside_w (λ i ask at. at) (o.claimed_won chunk (λ free. absurd cc)))
-    (λ about found there. record { entry = there.entry; at = at_longer v.begun (Held chunk (fresh words) ∷ []) found.id there.entry there.at; has = there.has })
+    (λ about found there. record { entry = there.entry; at = at_longer v.begun (Held chunk (fresh words) ∷ []) found.position there.entry there.at; has = there.has })

@@ -46,10 +46,10 @@ StillHas about found (Completed chunk content) =
     (chunk ≡ about) × MayFollow found.head (head_of content) × (length found.sealed ≤ length content.image.payload)
     × BeginsAs (byte_in content.image.payload) found
 
--- the writer has begun the chunk under the id that was found, and has it still as it was found
+-- the writer has begun the chunk at the position that was found, and has it still as it was found
 pub record IsThere (view : WriterView) (chunk : ℕ) (found : Found) : Type 0 where
   pub entry : BegunChunk
-  pub at : At view.begun found.id entry
+  pub at : At view.begun found.position entry
   pub has : StillHas chunk found entry
 
 -- What a writer holds
@@ -58,22 +58,22 @@ abbrev pub draft_in : BegunChunk → Draft
 draft_in (Held chunk draft) = draft
 draft_in (Completed chunk content) = no_draft
 
--- what stands in the chunk that the writer holds under this id
+-- what stands in the chunk that the writer holds at this position
 abbrev pub draft_at : WriterView → ℕ → Draft
-draft_at view id = draft_in (slice_index_or view.begun id (Held 0 no_draft))
+draft_at view position = draft_in (slice_index_or view.begun position (Held 0 no_draft))
 
 -- its header
 abbrev pub head_at : WriterView → ℕ → Head
-head_at view id = (draft_at view id).head
+head_at view position = (draft_at view position).head
 
 -- its payload, byte by byte
 abbrev pub published : WriterView → ℕ → ℕ → ℕ
-published view id = byte_at (draft_at view id).words
+published view position = byte_at (draft_at view position).words
 
 -- the ends of its first fragments, which are finished where so many are counted
 abbrev pub ends_by : WriterView → ℕ → ℕ → List ℕ
-ends_by view id count = ends_from (published view id) 0 (count - 1)
+ends_by view position count = ends_from (published view position) 0 (count - 1)
 
--- the writer holds the chunk under this id
+-- the writer holds the chunk at this position
 abbrev pub IsHolding : WriterView → ℕ → ℕ → Type 0
-IsHolding view chunk id = At view.begun id (Held chunk (draft_at view id))
+IsHolding view chunk position = At view.begun position (Held chunk (draft_at view position))

@@ -23,18 +23,19 @@ completed_patches (Completed chunk content ∷ begun) = content.patches ∷ comp
 -- have, and what doesn't read, is no event.
 
 -- the content of a taken chunk
-abbrev pub content_at : ServiceView → (sequence chunk_id : ℕ) → Option Content
-content_at service sequence chunk_id = slice_get (taken_of service (sequence - FIRST_SEQUENCE)).contents chunk_id
+abbrev pub content_at : ServiceView → (sequence position : ℕ) → Option Content
+content_at service sequence position = slice_get (taken_of service (sequence - FIRST_SEQUENCE)).contents position
 
--- the chunk was found with so many finished fragments, of the writer at this place and under this id
-abbrev pub is_scraped : (place id count : ℕ) → Option Found → Bool
-is_scraped place id count None = false
-is_scraped place id count (Some found) = (found.place == place) && (found.id == id) && (length found.ends == count)
+-- the chunk was found with so many finished fragments, of the writer at this place and at this position
+abbrev pub is_scraped : (place position count : ℕ) → Option Found → Bool
+is_scraped place position count None = false
+is_scraped place position count (Some found) = (found.place == place) && (found.position == position) && (length found.ends == count)
 
 -- the first look that found it so
-abbrev pub found_among : (place id count : ℕ) → List Look → Option Found
-found_among place id count [] = None
-found_among place id count (look ∷ looks) = if is_scraped place id count look.found then look.found else found_among place id count looks
+abbrev pub found_among : (place position count : ℕ) → List Look → Option Found
+found_among place position count [] = None
+found_among place position count (look
+    ∷ looks) = if is_scraped place position count look.found then look.found else found_among place position count looks
 
 -- an event with a chunk, where its fragments read
 abbrev pub once_read : (Chunk → model.Event) → ℕ → Reading → List model.Event
@@ -42,16 +43,16 @@ once_read event flags (Fragments fragments) = event (whole_chunk flags fragments
 once_read event flags (Unreadable number) = []
 
 -- the event of a chunk's arrival
-abbrev pub arrival_of : (sequence chunk_id : ℕ) → Option Content → List model.Event
-arrival_of sequence chunk_id None = []
-arrival_of sequence chunk_id (Some content) =
-    once_read (λ chunk. model.Arrives sequence chunk_id chunk) content.image.flags (reading_of content.image.count content.image.payload)
+abbrev pub arrival_of : (sequence position : ℕ) → Option Content → List model.Event
+arrival_of sequence position None = []
+arrival_of sequence position (Some content) =
+    once_read (λ chunk. model.Arrives sequence position chunk) content.image.flags (reading_of content.image.count content.image.payload)
 
 -- the event of a part's arrival, by what a look found
-abbrev pub part_of : (sequence chunk_id count : ℕ) → Option Found → List model.Event
-part_of sequence chunk_id count None = []
-part_of sequence chunk_id count (Some found) =
-    once_read (λ chunk. model.ArrivesInPart sequence chunk_id chunk) found.head.flags (reading_of count found.sealed)
+abbrev pub part_of : (sequence position count : ℕ) → Option Found → List model.Event
+part_of sequence position count None = []
+part_of sequence position count (Some found) =
+    once_read (λ chunk. model.ArrivesInPart sequence position chunk) found.head.flags (reading_of count found.sealed)
 
 -- the event of a body's patches
 abbrev pub patches_of : ℕ → Option Content → List model.Event
@@ -65,10 +66,10 @@ commit_of (Some committed) = model.Committed committed.image committed.patches �
 
 -- what a note of the service says, with the images and patches that its view has
 abbrev pub happened : ServiceView → Noted → List model.Event
-happened service (Arrive sequence chunk_id) = arrival_of sequence chunk_id (content_at service sequence chunk_id)
-happened service (Partial sequence chunk_id count) =
-    part_of sequence chunk_id count (found_among (sequence - FIRST_SEQUENCE) chunk_id count service.looks)
-happened service (Patched sequence chunk_id) = patches_of sequence (content_at service sequence chunk_id)
+happened service (Arrive sequence position) = arrival_of sequence position (content_at service sequence position)
+happened service (Partial sequence position count) =
+    part_of sequence position count (found_among (sequence - FIRST_SEQUENCE) position count service.looks)
+happened service (Patched sequence position) = patches_of sequence (content_at service sequence position)
 happened service (Closed sequence) = model.Closed sequence ∷ []
 happened service (Read sequence limit) = model.Read sequence limit ∷ []
 happened service (Commit place) = commit_of (slice_get service.commits place)

@@ -22,22 +22,24 @@ pub record WriterStepsKeep (world : World) (place chunk : ℕ) : Type 0 where
       → IsOwned (with_writer_view world place (claims (writer world place) chunk found false))
   pub stamps_it : 0 < times chunk (writer world place).claimed → (writer world place).stamped ≡ None
       → IsOwned (moved world place (stamps (writer world place) chunk) chunk (Stamped place (length (writer world place).begun)))
-  pub begins_it : (words : List ℕ) → (writer world place).stamped ≡ Some (record { chunk = chunk; id = length (writer world place).begun })
+  pub begins_it : (words : List ℕ)
+      → (writer world place).stamped ≡ Some (record { chunk = chunk; position = length (writer world place).begun })
       → IsOwned (moved world place (begins (writer world place) chunk words) chunk (Writing place (length (writer world place).begun) (fresh words)))
   -- a header of a held chunk, where its bytes read as the fragments that are finished then
-  pub heads_it : (id : ℕ) (draft : Draft) (head : Head) (ends : List ℕ) → At (writer world place).begun id (Held chunk draft)
+  pub heads_it : (position : ℕ) (draft : Draft) (head : Head) (ends : List ℕ) → At (writer world place).begun position (Held chunk draft)
       → MayFollow draft.head head → IsDraft (with_head draft head ends)
-      → IsOwned (moved world place (redrafts (writer world place) chunk id (with_head draft head ends)) chunk (Writing place id (with_head draft head ends)))
+      → IsOwned (moved world place (redrafts (writer world place) chunk position (with_head draft head ends)) chunk (Writing place position (with_head draft head ends)))
   -- a payload word of a held chunk, where each byte of its finished fragments stays
-  pub publishes_it : (id index word : ℕ) (draft : Draft) → At (writer world place).begun id (Held chunk draft) → index < length draft.words
+  pub publishes_it : (position index word : ℕ) (draft : Draft) → At (writer world place).begun position (Held chunk draft)
+      → index < length draft.words
       → ((m : ℕ) → m < 8 → 8 * index + m < sealed_to draft.ends → byte_of word m ≡ byte_of (slice_index_or draft.words index 0) m)
-      → IsOwned (moved world place (redrafts (writer world place) chunk id (with_word draft index word)) chunk (Writing place id (with_word draft index word)))
+      → IsOwned (moved world place (redrafts (writer world place) chunk position (with_word draft index word)) chunk (Writing place position (with_word draft index word)))
   -- a held chunk is completed, whose content has its finished fragments
-  pub completes_it : (id : ℕ) (draft : Draft) (content : Content) → At (writer world place).begun id (Held chunk draft)
-      → content.image.chunk_id ≡ id → content.image.sequence ≡ sequence_of place → head_of content ≡ draft.head
+  pub completes_it : (position : ℕ) (draft : Draft) (content : Content) → At (writer world place).begun position (Held chunk draft)
+      → content.image.chunk_id ≡ position → content.image.sequence ≡ sequence_of place → head_of content ≡ draft.head
       → sealed_to draft.ends ≤ length content.image.payload
       → ((j : ℕ) → j < sealed_to draft.ends → byte_at draft.words j ≡ byte_in content.image.payload j)
-      → IsOwned (moved world place (completes (writer world place) chunk id content) chunk (Ready place id content))
+      → IsOwned (moved world place (completes (writer world place) chunk position content) chunk (Ready place position content))
   -- what it notes: a call, a request that it heard of, an answer
   pub notes_it : (calls : List Call) (letters : Letters) → IsOwned (with_writer_view world place (record (writer world place) { calls = calls; letters = letters }))
 
@@ -51,7 +53,7 @@ pub record ServiceStepsKeep (world : World) (place chunk : ℕ) : Type 0 where
   pub learns_it : (content : Content) → length (taken_of world.service place).contents < (taken_of world.service place).count
       → At (writer world place).begun (length (taken_of world.service place).contents) (Completed chunk content)
       → IsOwned (serviced world (learns world.service place content))
-  pub releases_it : (other id : ℕ) (content : Content) → status world chunk ≡ Reading other id content
+  pub releases_it : (other position : ℕ) (content : Content) → status world chunk ≡ Reading other position content
       → IsOwned (served world (lets_go world.service chunk) chunk Unclaimed)
   pub notes_it : (service : ServiceView) → service.looks ≡ world.service.looks → service.taken ≡ world.service.taken
       → service.reading ≡ world.service.reading → IsOwned (serviced world service)

@@ -1,5 +1,5 @@
 -- Ownership in a world: who has each chunk, between any two steps. It is said as facts on one writer and one chunk, on one writer, and on
--- one chunk. Since each status names one writer and one id, that exactly one seat has a chunk is then true by the form.
+-- one chunk. Since each status names one writer and one position, that exactly one seat has a chunk is then true by the form.
 use Rattle.std.specs.Prelude.{◌≡◌, ℕ, ◌+◌, ◌<◌, ◌≤◌, ◌==◌, true, false, Option, Some, None, List, [], ◌∷◌, length, map, slice_index_or, if◌then◌else◌}
 use Rattle.chunk_plain.specs.Setup.{sequence_of}
 use Rattle.chunk_plain.specs.Views.{At, Ask, Draft, Content, BegunChunk, chunk_of, Held, Completed, Stamp, WriterView, newcomer, Taken, Look, Found, taken_of}
@@ -18,23 +18,26 @@ claims_of place _ = 0
 
 -- how often the service's view has a chunk of this status as being read
 abbrev pub reads_of : Status → ℕ
-reads_of (Reading place id content) = 1
+reads_of (Reading place position content) = 1
 reads_of _ = 0
 
 -- One writer and one chunk: the writer's view has the chunk in just the way that its status says. So many chunks of this writer are taken.
 pub record Owns (count place : ℕ) (view : WriterView) (chunk : ℕ) (is : Status) : Type 0 where
   -- claimed, once
   pub claimed : times chunk view.claimed ≡ claims_of place is
-  pub stamp_is : (id : ℕ) → view.stamped ≡ Some (record { chunk = chunk; id = id }) → is ≡ Stamped place id
-  pub stamped_is : (id : ℕ) → is ≡ Stamped place id → view.stamped ≡ Some (record { chunk = chunk; id = id })
-  -- held, under one id and with one draft
-  pub held_is : (id : ℕ) (draft : Draft) → At view.begun id (Held chunk draft) → is ≡ Writing place id draft
-  pub writing_is : (id : ℕ) (draft : Draft) → is ≡ Writing place id draft → At view.begun id (Held chunk draft)
+  pub stamp_is : (position : ℕ) → view.stamped ≡ Some (record { chunk = chunk; position = position }) → is ≡ Stamped place position
+  pub stamped_is : (position : ℕ) → is ≡ Stamped place position → view.stamped ≡ Some (record { chunk = chunk; position = position })
+  -- held, at one position and with one draft
+  pub held_is : (position : ℕ) (draft : Draft) → At view.begun position (Held chunk draft) → is ≡ Writing place position draft
+  pub writing_is : (position : ℕ) (draft : Draft) → is ≡ Writing place position draft → At view.begun position (Held chunk draft)
   -- completed and not taken: the chunk has this content
-  pub completed_is : (id : ℕ) (content : Content) → At view.begun id (Completed chunk content) → count ≤ id → is ≡ Ready place id content
-  pub ready_is : (id : ℕ) (content : Content) → is ≡ Ready place id content → At view.begun id (Completed chunk content) × (count ≤ id)
+  pub completed_is : (position : ℕ) (content : Content) → At view.begun position (Completed chunk content) → count ≤ position
+      → is ≡ Ready place position content
+  pub ready_is : (position : ℕ) (content : Content) → is ≡ Ready place position content
+      → At view.begun position (Completed chunk content) × (count ≤ position)
   -- taken, and still read
-  pub reading_is : (id : ℕ) (content : Content) → is ≡ Reading place id content → At view.begun id (Completed chunk content) × (id < count)
+  pub reading_is : (position : ℕ) (content : Content) → is ≡ Reading place position content
+      → At view.begun position (Completed chunk content) × (position < count)
 
 -- the chunk whose header is stored and which isn't begun yet, if there is one
 abbrev pub stamped_chunks : Option Stamp → List ℕ
@@ -52,22 +55,24 @@ abbrev pub won_chunks : List Ask → List ℕ
 won_chunks [] = []
 won_chunks (ask ∷ asks) = if ask.won then ask.chunk ∷ won_chunks asks else won_chunks asks
 
--- One writer: its ids are those that it began, and the service took the first ones of them.
+-- One writer: its positions are those of the chunks that it began, and the service took the first ones of them.
 pub record Counts (taken : Taken) (place : ℕ) (view : WriterView) : Type 0 where
-  -- each claim that it won is of a chunk that it has claimed or whose header it stored, or of one that it began under an id of its own: of
-  -- each chunk there are as many of these as of those
+  -- each claim that it won is of a chunk that it has claimed or whose header it stored, or of one that it began at a position of its own:
+  -- of each chunk there are as many of these as of those
   pub wins : (chunk : ℕ) → times chunk (won_chunks view.asked)
       ≡ times chunk view.claimed + times chunk (stamped_chunks view.stamped) + times chunk (map chunk_of view.begun)
-  pub next : (stamp : Stamp) → view.stamped ≡ Some stamp → stamp.id ≡ length view.begun
-  -- a completed chunk's image has its id and the writer's sequence
-  pub named : (id chunk : ℕ) (content : Content) → At view.begun id (Completed chunk content)
-      → (content.image.chunk_id ≡ id) × (content.image.sequence ≡ sequence_of place)
+  pub next : (stamp : Stamp) → view.stamped ≡ Some stamp → stamp.position ≡ length view.begun
+  -- a completed chunk's image has its position and the writer's sequence
+  pub named : (position chunk : ℕ) (content : Content) → At view.begun position (Completed chunk content)
+      → (content.image.chunk_id ≡ position) × (content.image.sequence ≡ sequence_of place)
   -- the bytes of each chunk read as its finished fragments
-  pub drafts : (id chunk : ℕ) (draft : Draft) → At view.begun id (Held chunk draft) → IsDraft draft
-  pub wholes : (id chunk : ℕ) (content : Content) → At view.begun id (Completed chunk content) → HasFinished content
-  pub completed : (id : ℕ) → id < taken.count → (chunk : ℕ) × (content : Content) × At view.begun id (Completed chunk content)
+  pub drafts : (position chunk : ℕ) (draft : Draft) → At view.begun position (Held chunk draft) → IsDraft draft
+  pub wholes : (position chunk : ℕ) (content : Content) → At view.begun position (Completed chunk content) → HasFinished content
+  pub completed : (position : ℕ) → position < taken.count
+      → (chunk : ℕ) × (content : Content) × At view.begun position (Completed chunk content)
   -- the contents that the service has are those that the writer completed
-  pub learnt : (id : ℕ) (content : Content) → At taken.contents id content → (chunk : ℕ) × At view.begun id (Completed chunk content)
+  pub learnt : (position : ℕ) (content : Content) → At taken.contents position content
+      → (chunk : ℕ) × At view.begun position (Completed chunk content)
   pub level : length taken.contents ≤ taken.count
 
 -- some writer's claim won the chunk

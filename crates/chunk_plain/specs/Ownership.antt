@@ -5,7 +5,7 @@ use Rattle.page_geometry.specs.declared.page_word.TheConstants.{CLAIM_BIT}
 use Rattle.page_geometry.specs.declared.chunk_state.ChunkState.TheVariants.{Free, BeingWritten, BeingRead, Complete}
 use Rattle.page_geometry.specs.PageBits.{HasState}
 use Rattle.commit_body.specs.declared.body.CommitBody.{CommitBody}
-use Rattle.chunk_plain.specs.Setup.{Setup, spot}
+use Rattle.chunk_plain.specs.Setup.{Setup, spot, from_of}
 use Rattle.chunk_plain.specs.Payload.{byte_at}
 use Rattle.chunk_plain.specs.Views.{At, Head, no_head, Draft, Content, chunk_of, Held, Completed, Look, Found, taken_of}
 use Rattle.chunk_plain.specs.World.{World, writer}
@@ -18,15 +18,16 @@ use Rattle.chunk_plain.specs.Words.{IsServing}
 -- the writer's view has the chunk as claimed, its header stored or not
 abbrev pub Claims : World → ℕ → ℕ → Type 0
 Claims world place chunk =
-    (0 < times chunk (writer world place).claimed) ⊎ ((id : ℕ) × ((writer world place).stamped ≡ Some (record { chunk = chunk; id = id })))
+    (0 < times chunk (writer world place).claimed) ⊎ ((position : ℕ)
+    × ((writer world place).stamped ≡ Some (record { chunk = chunk; position = position })))
 
--- the writer's view has the chunk as held, under this id, and this stands in it
+-- the writer's view has the chunk as held, at this position, and this stands in it
 abbrev pub Holds : World → ℕ → ℕ → ℕ → Draft → Type 0
-Holds world place chunk id draft = At (writer world place).begun id (Held chunk draft)
+Holds world place chunk position draft = At (writer world place).begun position (Held chunk draft)
 
--- the writer completed the chunk under this id, with this content
+-- the writer completed the chunk at this position, with this content
 abbrev pub Completes : World → ℕ → ℕ → ℕ → Content → Type 0
-Completes world place chunk id content = At (writer world place).begun id (Completed chunk content)
+Completes world place chunk position content = At (writer world place).begun position (Completed chunk content)
 
 -- the service's view has the chunk as being read
 abbrev pub Reads : World → ℕ → Type 0
@@ -35,7 +36,7 @@ Reads world chunk = 0 < times chunk world.service.reading
 -- no seat has the chunk
 pub record IsNobodys (world : World) (chunk : ℕ) : Type 0 where
   pub claimed : (place : ℕ) → Claims world place chunk → ⊥
-  pub held : (place id : ℕ) (draft : Draft) → Holds world place chunk id draft → ⊥
+  pub held : (place position : ℕ) (draft : Draft) → Holds world place chunk position draft → ⊥
   pub read : Reads world chunk → ⊥
 
 -- exactly one writer has the chunk as claimed; once it has stored the chunk's header, the header word is the one in its view
@@ -43,55 +44,56 @@ pub record IsClaimedByOne (setup : Setup) (world : World) (chunk header : ℕ) :
   pub place : ℕ
   pub claims : Claims world place chunk
   pub only : (other : ℕ) → Claims world other chunk → other ≡ place
-  pub stored : (id : ℕ) → (writer world place).stamped ≡ Some (record { chunk = chunk; id = id }) → IsHeader setup header place id no_head
+  pub stored : (position : ℕ) → (writer world place).stamped ≡ Some (record { chunk = chunk; position = position })
+      → IsHeader setup header place position no_head
 
 -- exactly one writer holds the chunk, and header word and payload words are those in its view
 pub record IsHeldByOne (setup : Setup) (world : World) (chunk header : ℕ) (slot : Stored) : Type 0 where
   pub place : ℕ
-  pub id : ℕ
+  pub position : ℕ
   pub draft : Draft
-  pub holds : Holds world place chunk id draft
-  pub only : (other i : ℕ) (d : Draft) → Holds world other chunk i d → (other ≡ place) × (i ≡ id)
-  pub stored : IsHeader setup header place id draft.head
+  pub holds : Holds world place chunk position draft
+  pub only : (other i : ℕ) (d : Draft) → Holds world other chunk i d → (other ≡ place) × (i ≡ position)
+  pub stored : IsHeader setup header place position draft.head
   pub words : slot.words ≡ draft.words
 
--- header word, payload words and body are the content of an id that the header's writer completed and the service hasn't taken
+-- header word, payload words and body are the content of a position that the header's writer completed and the service hasn't taken
 pub record IsWhole (setup : Setup) (world : World) (chunk header : ℕ) (slot : Stored) : Type 0 where
   pub place : ℕ
-  pub id : ℕ
+  pub position : ℕ
   pub content : Content
   pub body : CommitBody
-  pub completes : Completes world place chunk id content
-  pub untaken : (taken_of world.service place).count ≤ id
-  pub stored : IsHeader setup header place id (head_of content)
+  pub completes : Completes world place chunk position content
+  pub untaken : (taken_of world.service place).count ≤ position
+  pub stored : IsHeader setup header place position (head_of content)
   pub payload : HoldsPayload (spot setup chunk).payload_size slot.words content.image.payload
   pub kept : slot.body ≡ Some body
-  pub body_is : IsBodyOf (spot setup chunk).payload_size content body
+  pub body_is : IsBodyOf (from_of setup place) (spot setup chunk).payload_size content body
 
 -- the service alone has the chunk, once; its header word and payload words are still those of its content
 pub record IsReadOnce (setup : Setup) (world : World) (chunk header : ℕ) (slot : Stored) : Type 0 where
   pub once : times chunk world.service.reading ≡ 1
   pub unclaimed : (place : ℕ) → Claims world place chunk → ⊥
-  pub unheld : (place id : ℕ) (draft : Draft) → Holds world place chunk id draft → ⊥
+  pub unheld : (place position : ℕ) (draft : Draft) → Holds world place chunk position draft → ⊥
   pub place : ℕ
-  pub id : ℕ
+  pub position : ℕ
   pub content : Content
-  pub completes : Completes world place chunk id content
-  pub taken : id < (taken_of world.service place).count
-  pub stored : IsHeader setup header place id (head_of content)
+  pub completes : Completes world place chunk position content
+  pub taken : position < (taken_of world.service place).count
+  pub stored : IsHeader setup header place position (head_of content)
   pub payload : HoldsPayload (spot setup chunk).payload_size slot.words content.image.payload
 
--- A chunk that was found being written, of an id that isn't taken, is being written or complete with the same writer and id. Its count is
--- at least the one that was found, its flag 1 is as it was, and the bytes of the fragments that were finished stand there now.
+-- A chunk that was found being written, of a position that isn't taken, is being written or complete with the same writer and position.
+-- Its count is at least the one that was found, its flag 1 is as it was, and the bytes of the fragments that were finished stand there now.
 pub record IsAsFound (setup : Setup) (world : World) (chunk word header : ℕ) (slot : Stored) (found : Found) : Type 0 where
   pub inside : chunk < length setup.spots
   pub state : HasState word (spot setup chunk).place BeingWritten ⊎ HasState word (spot setup chunk).place Complete
   pub head : Head
-  pub stored : IsHeader setup header found.place found.id head
+  pub stored : IsHeader setup header found.place found.position head
   pub follows : MayFollow found.head head
   pub bytes : BeginsAs (byte_at slot.words) found
 
--- The eight parts. That the begun ids of a writer are 0 and up, each held or completed once, is so by the type of its view.
+-- The eight parts. That the begun positions of a writer are 0 and up, each held or completed once, is so by the type of its view.
 pub record Ownership (setup : Setup) (words : List ℕ) (slots : List Stored) (world : World) : Type 0 where
   pub unclaimed : (chunk : ℕ) → chunk < length setup.spots → bit_at (page_word setup words chunk) (CLAIM_BIT + (spot setup chunk).place) ≡ 0
       → HasState (page_word setup words chunk) (spot setup chunk).place Free × IsNobodys world chunk
@@ -100,11 +102,11 @@ pub record Ownership (setup : Setup) (words : List ℕ) (slots : List Stored) (w
       → IsClaimedByOne setup world chunk (header_word setup words chunk)
   pub written : (chunk : ℕ) → chunk < length setup.spots → HasState (page_word setup words chunk) (spot setup chunk).place BeingWritten
       → IsHeldByOne setup world chunk (header_word setup words chunk) (stored_at slots chunk)
-  -- of each begun id, held or completed, the bytes in its writer's view read as its finished fragments
-  pub drafts : (place chunk id : ℕ) (draft : Draft) → Holds world place chunk id draft → IsDraft draft
-  pub wholes : (place chunk id : ℕ) (content : Content) → Completes world place chunk id content → HasFinished content
+  -- of each begun position, held or completed, the bytes in its writer's view read as its finished fragments
+  pub drafts : (place chunk position : ℕ) (draft : Draft) → Holds world place chunk position draft → IsDraft draft
+  pub wholes : (place chunk position : ℕ) (content : Content) → Completes world place chunk position content → HasFinished content
   pub looked : (n : ℕ) (look : Look) (found : Found) → At world.service.looks n look → look.found ≡ Some found
-      → (taken_of world.service found.place).count ≤ found.id
+      → (taken_of world.service found.place).count ≤ found.position
       → IsAsFound setup world look.chunk (page_word setup words look.chunk) (header_word setup words look.chunk) (stored_at slots look.chunk) found
   pub complete : (chunk : ℕ) → chunk < length setup.spots → HasState (page_word setup words chunk) (spot setup chunk).place Complete
       → IsWhole setup world chunk (header_word setup words chunk) (stored_at slots chunk)
@@ -113,15 +115,15 @@ pub record Ownership (setup : Setup) (words : List ℕ) (slots : List Stored) (w
   pub layout : (chunk : ℕ) → chunk < length setup.spots → ShowsLayout setup world (spot setup chunk) (page_word setup words chunk)
   pub spare : (chunk : ℕ) → chunk < length setup.spots → (bit : ℕ) → IsSpare (spot setup chunk).chunks bit
       → bit_at (page_word setup words chunk) bit ≡ 0
-  pub taken : (place id : ℕ) → id < (taken_of world.service place).count
-      → (chunk : ℕ) × (content : Content) × Completes world place chunk id content
-  -- the contents in the service's view are those of taken ids, and between two calls it has each of these
-  pub learnt : (place id : ℕ) (content : Content) → At (taken_of world.service place).contents id content
-      → (id < (taken_of world.service place).count) × ((chunk : ℕ) × Completes world place chunk id content)
-  pub known : IsServing setup world.service → (place id : ℕ) → id < (taken_of world.service place).count
-      → (content : Content) × At (taken_of world.service place).contents id content
-  pub untaken : (place chunk id : ℕ) (content : Content) → Completes world place chunk id content
-      → (taken_of world.service place).count ≤ id
+  pub taken : (place position : ℕ) → position < (taken_of world.service place).count
+      → (chunk : ℕ) × (content : Content) × Completes world place chunk position content
+  -- the contents in the service's view are those of taken positions, and between two calls it has each of these
+  pub learnt : (place position : ℕ) (content : Content) → At (taken_of world.service place).contents position content
+      → (position < (taken_of world.service place).count) × ((chunk : ℕ) × Completes world place chunk position content)
+  pub known : IsServing setup world.service → (place position : ℕ) → position < (taken_of world.service place).count
+      → (content : Content) × At (taken_of world.service place).contents position content
+  pub untaken : (place chunk position : ℕ) (content : Content) → Completes world place chunk position content
+      → (taken_of world.service place).count ≤ position
       → HasState (page_word setup words chunk) (spot setup chunk).place Complete
   pub won : (chunk : ℕ) → chunk < length setup.spots → bit_at (page_word setup words chunk) (CLAIM_BIT + (spot setup chunk).place) ≡ 1
       → Won world chunk

@@ -4,7 +4,7 @@ use Rattle.page_geometry.specs.Header.{packed}
 use Rattle.commit_body.specs.declared.body.CommitBody.{CommitBody}
 use Rattle.chunk_plain.specs.declared.step.Step.{Step}
 use Rattle.chunk_plain.specs.declared.step.Step.TheVariants.{Claim, Stamp, Begin, SetHeader, Publish, Complete, Look, Take, Learn, Release, Call, Event, Commit}
-use Rattle.chunk_plain.specs.Setup.{Setup}
+use Rattle.chunk_plain.specs.Setup.{Setup, from_of}
 use Rattle.chunk_plain.specs.Payload.{byte_at, first_bytes, sealed_to}
 use Rattle.chunk_plain.specs.Views.{Head, Content, Found, WriterView, newcomer, newcomer_service, none_taken, taken_of}
 use Rattle.chunk_plain.specs.World.{World, Status, Unclaimed, Claimed, Stamped, Writing, Ready, Reading, status, writer}
@@ -26,9 +26,9 @@ first_world setup = record {
 
 -- what a look finds in a chunk with this status
 abbrev pub found_in : Status → Option Found
-found_in (Writing place id draft) = Some (record {
+found_in (Writing place position draft) = Some (record {
   place = place;
-  id = id;
+  position = position;
   head = draft.head;
   ends = draft.ends;
   sealed = first_bytes (byte_at draft.words) (sealed_to draft.ends);
@@ -37,7 +37,7 @@ found_in _ = None
 
 -- a chunk that is taken stays what it was
 abbrev pub read_as : Status → Status
-read_as (Ready place id content) = Reading place id content
+read_as (Ready place position content) = Reading place position content
 read_as other = other
 
 -- the world after a step
@@ -49,38 +49,39 @@ world_after world (Stamp place chunk) =
     moved world place (stamps (writer world place) chunk) chunk (Stamped place (length (writer world place).begun))
 world_after world (Begin place chunk words) =
     moved world place (begins (writer world place) chunk words.now) chunk (Writing place (length (writer world place).begun) (views.fresh words.now))
-world_after world (SetHeader place chunk id count flags) =
+world_after world (SetHeader place chunk position count flags) =
     let view = writer world place in
-    let draft = with_head (draft_at view id) (record { count = count; flags = flags }) (ends_by view id count) in
-    moved world place (redrafts view chunk id draft) chunk (Writing place id draft)
-world_after world (Publish place chunk id words) =
-    let view = writer world place in let draft = with_words (draft_at view id) words.now in
-    moved world place (redrafts view chunk id draft) chunk (Writing place id draft)
-world_after world (Complete place chunk id body) =
-    let content = content_of place id (head_at (writer world place) id) body.now in
-    moved world place (completes (writer world place) chunk id content) chunk (Ready place id content)
+    let draft = with_head (draft_at view position) (record { count = count; flags = flags }) (ends_by view position count) in
+    moved world place (redrafts view chunk position draft) chunk (Writing place position draft)
+world_after world (Publish place chunk position words) =
+    let view = writer world place in let draft = with_words (draft_at view position) words.now in
+    moved world place (redrafts view chunk position draft) chunk (Writing place position draft)
+world_after world (Complete layout place chunk position body) =
+    let content = content_of (from_of layout.now place) place position (head_at (writer world place) position) body.now in
+    moved world place (completes (writer world place) chunk position content) chunk (Ready place position content)
 world_after world (Look chunk word header) = serviced world (looks_at world.service chunk word (packed header) (found_in (status world chunk)))
 world_after world (Take place chunk word header) =
     served world (takes_in (looks_at world.service chunk word (packed header) None) place chunk) chunk (read_as (status world chunk))
-world_after world (Learn place header body) =
-    let content = content_of place header.chunk_id (record { count = header.count; flags = header.flags }) body.now in
+world_after world (Learn layout place header body) =
+    let position = length (taken_of world.service place).contents in
+    let content = content_of (from_of layout.now place) place position (record { count = header.count; flags = header.flags }) body.now in
     serviced world (learns world.service place content)
 world_after world (Release chunk) = served world (lets_go world.service chunk) chunk Unclaimed
 world_after world (Call place call) = with_writer_view world place (notes_call (writer world place) (call_of call))
 world_after world (Event event) = serviced world (notes world.service (event_of event))
-world_after world (Commit header payload patches) =
-    serviced world (notes_commit world.service (committed_of header payload.now patches.now))
+world_after world (Commit layout header payload patches) =
+    serviced world (notes_commit world.service (committed_of layout.now header payload.now patches.now))
 
 -- the body of a chunk with this status may be with a token
 abbrev pub IsLent : Status → Type 0
-IsLent (Writing place id draft) = Unit {0}
-IsLent (Reading place id content) = Unit {0}
+IsLent (Writing place position draft) = Unit {0}
+IsLent (Reading place position content) = Unit {0}
 IsLent _ = ⊥
 
 -- the payload in the body of a held chunk has its chunk's size, and was published whole
-pub record StandsWhole (size : ℕ) (view : WriterView) (id : ℕ) (body : CommitBody) : Type 0 where
+pub record StandsWhole (size : ℕ) (view : WriterView) (position : ℕ) (body : CommitBody) : Type 0 where
   pub size_is : vec_len body.payload ≡ size
-  pub published : IsPublished view id body.payload.items
+  pub published : IsPublished view position body.payload.items
 
 -- words and slots show the world, and the world is owned
 pub record IsKept (setup : Setup) (words : List ℕ) (slots : List Stored) (world : World) : Type 0 where

@@ -4,6 +4,7 @@ use Rattle.trace_base.specs.declared.limits.TheConstants.{FIRST_SEQUENCE, MAX_CH
 use Rattle.page_geometry.specs.declared.geometry.TheConstants.{MIN_PAYLOAD_SIZE}
 use Rattle.trace_base.specs.declared.policy.WriterPolicy.TheVariants.{Drops}
 use Rattle.trace_base.specs.declared.policy.WriterSpec.{WriterSpec}
+use Rattle.trace_base.specs.Ids.{id_of, position_of}
 use Rattle.chunk_plain.specs.declared.setup.Spot.{Spot}
 use Rattle.chunk_plain.specs.declared.setup.ChunkRange.{ChunkRange}
 
@@ -35,9 +36,17 @@ range_of setup producer = slice_index_or setup.ranges (producer - 1) (record { f
 abbrev pub size_of : Setup → ℕ → ℕ
 size_of setup producer = slice_index_or setup.sizes (producer - 1) 0
 
+-- the specification of a writer that there isn't
+abbrev pub no_writer : WriterSpec
+no_writer = record { producer = 0; buffer = 0; policy = Drops; from = 0 }
+
 -- the producer of the writer at this place
 abbrev pub producer_of : Setup → ℕ → ℕ
-producer_of setup place = (slice_index_or setup.writers place (record { producer = 0; buffer = 0; policy = Drops })).producer
+producer_of setup place = (slice_index_or setup.writers place no_writer).producer
+
+-- the id of its first chunk
+abbrev pub from_of : Setup → ℕ → ℕ
+from_of setup place = (slice_index_or setup.writers place no_writer).from
 
 -- the table has a producer with this number, counted from 1
 pub record HasProducer (setup : Setup) (producer : ℕ) : Type 0 where
@@ -74,10 +83,14 @@ pub record IsLaid (setup : Setup) : Type 0 where
   pub least : (chunk : ℕ) → chunk < length setup.spots → MIN_PAYLOAD_SIZE ≤ (spot setup chunk).payload_size
   pub most : (chunk : ℕ) → chunk < length setup.spots → (spot setup chunk).payload_size < MAX_PAGE_SIZE
 
--- The id of the chunk at this position among those that the writer began. A view names a chunk by its position; a header word, a token and
--- a caller by its id. The two are the same number here, and this is where they would part.
+-- The id of the chunk at this position among those that the writer began. Views, worlds and tokens of held chunks name a chunk by its
+-- position; header words, and the patches in the body of a chunk, by its id.
 abbrev pub id_at : Setup → (place position : ℕ) → ℕ
-id_at setup place position = position
+id_at setup place position = id_of (from_of setup place) position
+
+-- and the position of the chunk with this id
+abbrev pub position_at : Setup → (place id : ℕ) → ℕ
+position_at setup place id = position_of (from_of setup place) id
 
 -- the sequence of the writer at this place
 abbrev pub sequence_of : ℕ → ℕ

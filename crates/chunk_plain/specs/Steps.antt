@@ -21,10 +21,10 @@ claims view chunk found true =
 claims view chunk found false =
     record view { asked = view.asked ++ record { chunk = chunk; found = found; won = false; calls = length view.calls } ∷ [] }
 
--- the header of a claimed chunk is stored, with the writer's next id
+-- the header of a claimed chunk is stored, with the id of the writer's next position
 abbrev pub stamps : WriterView → ℕ → WriterView
 stamps view chunk =
-    record view { claimed = without chunk view.claimed; stamped = Some (record { chunk = chunk; id = length view.begun }) }
+    record view { claimed = without chunk view.claimed; stamped = Some (record { chunk = chunk; position = length view.begun }) }
 
 -- the chunk whose header was stored is begun, with the payload words that stand in it
 abbrev pub begins : WriterView → ℕ → List ℕ → WriterView
@@ -32,7 +32,7 @@ begins view chunk words = record view { stamped = None; begun = view.begun ++ He
 
 -- another thing stands in a held chunk
 abbrev pub redrafts : WriterView → ℕ → ℕ → Draft → WriterView
-redrafts view chunk id draft = record view { begun = slice_set view.begun id (Held chunk draft) }
+redrafts view chunk position draft = record view { begun = slice_set view.begun position (Held chunk draft) }
 
 -- the header of a held chunk is stored anew; with it come the ends of the fragments that are finished then
 abbrev pub with_head : Draft → Head → List ℕ → Draft
@@ -48,7 +48,7 @@ with_word draft index word = record draft { words = slice_set draft.words index 
 
 -- the writer has completed the chunk
 abbrev pub completes : WriterView → ℕ → ℕ → Content → WriterView
-completes view chunk id content = record view { begun = slice_set view.begun id (Completed chunk content) }
+completes view chunk position content = record view { begun = slice_set view.begun position (Completed chunk content) }
 
 -- the writer has noted the call
 abbrev pub notes_call : WriterView → Call → WriterView
@@ -103,7 +103,7 @@ moved world place view chunk to =
 
 -- another thing stands in a chunk that a writer holds
 abbrev pub drafted : World → ℕ → ℕ → ℕ → Draft → World
-drafted world place chunk id draft = moved world place (redrafts (writer world place) chunk id draft) chunk (Writing place id draft)
+drafted world place chunk position draft = moved world place (redrafts (writer world place) chunk position draft) chunk (Writing place position draft)
 
 -- the service's view changes, and one chunk
 abbrev pub served : World → ServiceView → ℕ → Status → World

@@ -22,7 +22,7 @@ pub record Ask : Type 0 where
   -- how many calls the writer had noted by then
   pub calls : ℕ
 
--- what the header of a chunk says besides its writer and its id
+-- what the header of a chunk says besides its writer and the chunk's id
 pub record Head : Type 0 where
   pub count : ℕ
   pub flags : ℕ
@@ -46,7 +46,7 @@ fresh words = record { head = no_head; words = words; ends = [] }
 abbrev pub no_draft : Draft
 no_draft = fresh []
 
--- a completed chunk, whole: its image, and the patches and the target in its commit body
+-- a completed chunk, whole: its image, and the patches and the target in its commit body; image and patches name chunks by their positions
 pub record Content : Type 0 where
   pub image : Image
   pub patches : List Patch
@@ -62,10 +62,10 @@ abbrev pub chunk_of : BegunChunk → ℕ
 chunk_of (Held chunk draft) = chunk
 chunk_of (Completed chunk content) = chunk
 
--- a claimed chunk whose header is stored with this id, and which isn't begun yet
+-- a claimed chunk whose header is stored with the id of this position, and which isn't begun yet
 pub record Stamp : Type 0 where
   pub chunk : ℕ
-  pub id : ℕ
+  pub position : ℕ
 
 -- an answer of a writer to a flush request: to this one and those before it, with so many chunks completed and so many calls noted by then
 pub record Reply : Type 0 where
@@ -89,7 +89,7 @@ pub record WriterView : Type 0 where
   -- the chunks that it claimed, and whose header it hasn't stored
   pub claimed : List ℕ
   pub stamped : Option Stamp
-  -- the chunks that it began; the id of each is its place here
+  -- the chunks that it began; the position of each is its place here
   pub begun : List BegunChunk
   -- the calls that it noted
   pub calls : List Call
@@ -101,7 +101,7 @@ newcomer = record { asked = []; claimed = []; stamped = None; begun = []; calls 
 
 -- The service
 
--- the chunks of one writer that the service took, whose ids are 0 and up
+-- the chunks of one writer that the service took, whose positions are 0 and up
 pub record Taken : Type 0 where
   pub count : ℕ
   -- each one's content, from the last step of its take on
@@ -111,11 +111,11 @@ pub record Taken : Type 0 where
 abbrev pub none_taken : Taken
 none_taken = record { count = 0; contents = [] }
 
--- A chunk that was found being written: by which writer and under which id, its header, the ends of the fragments before the last one
+-- A chunk that was found being written: by which writer and at which position, its header, the ends of the fragments before the last one
 -- counted, and the bytes of these fragments as they stood.
 pub record Found : Type 0 where
   pub place : ℕ
-  pub id : ℕ
+  pub position : ℕ
   pub head : Head
   pub ends : List ℕ
   pub sealed : List ℕ
@@ -131,18 +131,18 @@ pub record Look : Type 0 where
   -- how many chunks of each writer were taken by then
   pub taken : List ℕ
 
--- an event of the service as it was noted
+-- an event of the service as it was noted: chunks are named by their positions
 pub data Noted : Type 0 where
-  Arrive : (sequence chunk_id : ℕ) → Noted
+  Arrive : (sequence position : ℕ) → Noted
   -- the first fragments of a chunk, so many
-  Partial : (sequence chunk_id limit : ℕ) → Noted
-  Patched : (sequence chunk_id : ℕ) → Noted
+  Partial : (sequence position limit : ℕ) → Noted
+  Patched : (sequence position : ℕ) → Noted
   Closed : (sequence : ℕ) → Noted
   Read : (sequence limit : ℕ) → Noted
   -- an image came by a commit: it has this place among the commits
   Commit : (place : ℕ) → Noted
 
--- an image that came by a commit, and the patches given with it
+-- an image that came by a commit, and the patches given with it, which name chunks by their positions
 pub record Committed : Type 0 where
   pub image : Image
   pub patches : List Patch

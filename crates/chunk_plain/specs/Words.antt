@@ -1,5 +1,5 @@
 -- What a call on a table does to the views of its seats, and what the views have between two calls.
-use Rattle.std.specs.Prelude.{◌≡◌, ℕ, ◌+◌, ◌-◌, ◌*◌, ◌%◌, ◌<◌, ◌≤◌, ◌⊎◌, Bool, true, Option, Some, None, List, [], length, map, vec_len, if◌then◌else◌}
+use Rattle.std.specs.Prelude.{◌≡◌, ℕ, ◌+◌, ◌-◌, ◌*◌, ◌%◌, ◌^◌, ◌<◌, ◌≤◌, ◌⊎◌, Bool, true, Option, Some, None, List, [], length, map, vec_len, if◌then◌else◌}
 use Rattle.std.specs.Int.{bit_at}
 use Rattle.trace_base.specs.declared.limits.TheConstants.{MAX_FRAGMENTS}
 use Rattle.page_geometry.specs.declared.chunk_header.TheConstants.{MAX_FLAGS}
@@ -11,6 +11,8 @@ use Rattle.page_geometry.specs.Header.{packed}
 use Rattle.commit_body.specs.declared.body.Patch.{Patch}
 use Rattle.commit_body.specs.Patches.{patch_value}
 use Rattle.trace_model.specs.Calls as call
+use Rattle.trace_model.specs.Images.{Image}
+use Rattle.trace_model.specs.Ids.{placed_image, placed_patches}
 use Rattle.chunk_plain.specs.declared.notes.WriterCall.{WriterCall}
 use Rattle.chunk_plain.specs.declared.notes.WriterCall.TheVariants as writer_call
 use Rattle.chunk_plain.specs.declared.notes.ServiceEvent.{ServiceEvent}
@@ -18,7 +20,7 @@ use Rattle.chunk_plain.specs.declared.notes.ServiceEvent.TheVariants as event
 use Rattle.chunk_plain.specs.declared.tokens.Held.{Held as HeldToken}
 use Rattle.chunk_plain.specs.declared.tokens.Taken.{Taken as TakenToken}
 use Rattle.chunk_plain.specs.declared.tokens.NotComplete.{NotComplete}
-use Rattle.chunk_plain.specs.Setup.{Setup, spot, producer_of, IsChunkOf, id_at}
+use Rattle.chunk_plain.specs.Setup.{Setup, spot, producer_of, from_of, IsChunkOf, id_at}
 use Rattle.chunk_plain.specs.Payload.{byte_at, byte_in, sealed_to}
 use Rattle.chunk_plain.specs.Views.{At, Ask, Content, BegunChunk, chunk_of, WriterView, Found, Look, ServiceView, taken_of, Noted, Arrive, Partial, Patched, Closed, Read, Committed}
 use Rattle.chunk_plain.specs.Steps.{claims, stamps, begins, redrafts, looks_at, takes_in, learns}
@@ -34,18 +36,19 @@ pub record IsAtRest (setup : Setup) (place : ℕ) (view : WriterView) : Type 0 w
   pub stamped : view.stamped ≡ None
   pub asked : (i : ℕ) (ask : Ask) → At view.asked i ask → IsChunkOf setup (producer_of setup place) ask.chunk
   pub claimed : (chunk : ℕ) → 0 < times chunk view.claimed → IsChunkOf setup (producer_of setup place) chunk
-  pub begun : (id : ℕ) (entry : BegunChunk) → At view.begun id entry → IsChunkOf setup (producer_of setup place) (chunk_of entry)
+  pub begun : (position : ℕ) (entry : BegunChunk) → At view.begun position entry
+      → IsChunkOf setup (producer_of setup place) (chunk_of entry)
 
 -- the service's seat: its view has the content of each chunk that it took
 pub record IsServing (setup : Setup) (view : ServiceView) : Type 0 where
   pub writers : length view.taken ≡ length setup.writers
   pub level : (place : ℕ) → length (taken_of view place).contents ≡ (taken_of view place).count
 
--- Once the content of an id is in the view, what a look found of it are its first fragments, and it has at least as many as were counted
--- then.
+-- Once the content of a position is in the view, what a look found of it are its first fragments, and it has at least as many as were
+-- counted then.
 abbrev pub LearntAsFound : ServiceView → Type 0
 LearntAsFound view = (n : ℕ) (look : Look) (found : Found) (content : Content) → At view.looks n look → look.found ≡ Some found
-    → At (taken_of view found.place).contents found.id content
+    → At (taken_of view found.place).contents found.position content
     → MayFollow found.head (head_of content) × (length found.sealed ≤ length content.image.payload)
     × ((j : ℕ) → j < length found.sealed → byte_in content.image.payload j ≡ byte_in found.sealed j)
 
@@ -57,11 +60,12 @@ pub record HasBoth (about : ℕ) (found : Found) (next : ℕ) (other : Found) : 
   pub other_is : IsFound other
   pub had : StillHas next other entry
 
--- Looks that found a chunk of the same writer and id found what one begun chunk of the writer has.
+-- Looks that found a chunk of the same writer and position found what one begun chunk of the writer has.
 abbrev pub LooksAgree : ServiceView → Type 0
 LooksAgree view = (n m : ℕ) (look later : Look) (found other : Found) → At view.looks n look → look.found ≡ Some found
     → At view.looks m later
-    → later.found ≡ Some other → found.place ≡ other.place → found.id ≡ other.id → ∥ HasBoth look.chunk found later.chunk other ∥₁
+    → later.found ≡ Some other → found.place ≡ other.place → found.position ≡ other.position
+    → ∥ HasBoth look.chunk found later.chunk other ∥₁
 
 -- so where equally many fragments were finished, they are the same, and so is flag 1, if there are any
 pub record FoundAlike (one other : Found) : Type 0 where
@@ -83,9 +87,9 @@ abbrev pub HasClaimed : WriterView → ℕ → Type 0
 HasClaimed view chunk = 0 < times chunk view.claimed
 
 -- a chunk that was just begun: its payload has the chunk's size, and no patches are in its body
-pub record IsBegun (setup : Setup) (chunk id : ℕ) (held : HeldToken) : Type 0 where
+pub record IsBegun (setup : Setup) (chunk position : ℕ) (held : HeldToken) : Type 0 where
   pub chunk_is : held.chunk ≡ chunk
-  pub id_is : held.id ≡ id
+  pub position_is : held.position ≡ position
   pub whole : vec_len held.body.payload ≡ (spot setup chunk).payload_size
   pub empty : held.body.patches.value.items ≡ []
 
@@ -97,12 +101,12 @@ pub record BeginsChunk (setup : Setup) (chunk : ℕ) (old new : WriterView) : Ty
 
 -- a writer's copy of a payload has the bytes of its finished fragments as they were published
 abbrev pub KeepsSealed : WriterView → ℕ → List ℕ → Type 0
-KeepsSealed view id copy =
-    (j : ℕ) → j < sealed_to (draft_at view id).ends → (j < length copy) × (published view id j ≡ byte_in copy j)
+KeepsSealed view position copy =
+    (j : ℕ) → j < sealed_to (draft_at view position).ends → (j < length copy) × (published view position j ≡ byte_in copy j)
 
 -- a writer's copy of a payload was published whole
 abbrev pub IsPublished : WriterView → ℕ → List ℕ → Type 0
-IsPublished view id copy = (j : ℕ) → j < length copy → published view id j ≡ byte_in copy j
+IsPublished view position copy = (j : ℕ) → j < length copy → published view position j ≡ byte_in copy j
 
 -- Some bytes of a copy were published: each byte of the range is the copy's now, and each other one is as before or the copy's, since words
 -- are stored whole.
@@ -112,23 +116,25 @@ pub record Publishes (copy : List ℕ) (from to : ℕ) (old new : List ℕ) : Ty
   pub others : (j : ℕ) → j < length copy → (byte_at new j ≡ byte_at old j) ⊎ (byte_at new j ≡ byte_in copy j)
 
 -- and nothing else of the view changed
-pub record PublishesBytes (chunk id from to : ℕ) (copy : List ℕ) (old new : WriterView) : Type 0 where
+pub record PublishesBytes (chunk position from to : ℕ) (copy : List ℕ) (old new : WriterView) : Type 0 where
   pub words : List ℕ
-  pub bytes : Publishes copy from to (draft_at old id).words words
-  pub view : new ≡ redrafts old chunk id (record (draft_at old id) { words = words })
+  pub bytes : Publishes copy from to (draft_at old position).words words
+  pub view : new ≡ redrafts old chunk position (record (draft_at old position) { words = words })
 
 -- what a held chunk has once it is completed
-abbrev pub completed_content : ℕ → WriterView → HeldToken → Content
-completed_content place view held = content_of place held.id (head_at view held.id) held.body
+abbrev pub completed_content : Setup → ℕ → WriterView → HeldToken → Content
+completed_content setup place view held =
+    content_of (from_of setup place) place held.position (head_at view held.position) held.body
 
 -- The service
 
--- what was found in a chunk that was being written: of the writer and the id in its header, which isn't taken yet
+-- what was found in a chunk that was being written: of the writer in its header and at the position of the id in it, which isn't taken yet
 pub record IsOfHeader (setup : Setup) (header : ChunkHeader) (view : ServiceView) (found : Found) : Type 0 where
   pub place_is : found.place + 1 ≡ header.writer_id
-  pub id_is : id_at setup found.place found.id ≡ header.chunk_id
+  pub id_is : id_at setup found.place found.position ≡ header.chunk_id
+  pub position_fits : found.position < 2 ^ 32
   pub head_is : found.head ≡ record { count = header.count; flags = header.flags }
-  pub untaken : (taken_of view found.place).count ≤ found.id
+  pub untaken : (taken_of view found.place).count ≤ found.position
   pub finished : IsFound found
 
 -- a look finds what stands in the chunk exactly where it is being written
@@ -142,26 +148,27 @@ pub record LooksAt (setup : Setup) (chunk word : ℕ) (header : ChunkHeader) (ol
   pub finds : FindsWritten setup chunk word header old found
   pub view : new ≡ looks_at old chunk word (packed header) found
 
--- the bytes of the chunk begin with those that a look found there, as long as the id isn't taken
+-- the bytes of the chunk begin with those that a look found there, as long as the position isn't taken
 abbrev pub ShowsFound : ServiceView → ℕ → List ℕ → Type 0
 ShowsFound view chunk bytes = (n : ℕ) (look : Look) (found : Found) → At view.looks n look → look.chunk ≡ chunk → look.found ≡ Some found
-    → (taken_of view found.place).count ≤ found.id
+    → (taken_of view found.place).count ≤ found.position
     → (length found.sealed ≤ length bytes) × ((j : ℕ) → j < length found.sealed → byte_in bytes j ≡ byte_in found.sealed j)
 
 -- the bytes are the payload of a content that the view has
 pub record IsTakenPayload (view : ServiceView) (bytes : List ℕ) : Type 0 where
   pub place : ℕ
-  pub id : ℕ
+  pub position : ℕ
   pub content : Content
-  pub at : At (taken_of view place).contents id content
+  pub at : At (taken_of view place).contents position content
   pub bytes_are : bytes ≡ content.image.payload
 
--- the content of a chunk that was taken of the writer at this place
-abbrev pub taken_content : ℕ → TakenToken → Content
-taken_content place taken =
-    content_of place taken.header.chunk_id (record { count = taken.header.count; flags = taken.header.flags }) taken.body
+-- the content of the chunk at this position that was taken of the writer at this place
+abbrev pub taken_content : Setup → (place position : ℕ) → TakenToken → Content
+taken_content setup place position taken =
+    content_of (from_of setup place) place position (record { count = taken.header.count; flags = taken.header.flags }) taken.body
 
--- The chunk was found complete, with this writer and id in its header; it is taken, and its content joins the view.
+-- The chunk was found complete, with this writer and id in its header, the id of the writer's next position; it is taken, and its content
+-- joins the view.
 pub record TakesChunk (setup : Setup) (chunk writer id : ℕ) (taken : TakenToken) (old new : ServiceView) : Type 0 where
   pub word : ℕ
   pub complete : HasState word (spot setup chunk).place Complete
@@ -171,7 +178,8 @@ pub record TakesChunk (setup : Setup) (chunk writer id : ℕ) (taken : TakenToke
   pub count_fits : taken.header.count ≤ MAX_FRAGMENTS
   pub flags_fit : taken.header.flags ≤ MAX_FLAGS
   pub whole : vec_len taken.body.payload ≡ (spot setup chunk).payload_size
-  pub view : new ≡ learns (takes_in (looks_at old chunk word (packed taken.header) None) (writer - 1) chunk) (writer - 1) (taken_content (writer - 1) taken)
+  pub view : new ≡ learns (takes_in (looks_at old chunk word (packed taken.header) None) (writer - 1) chunk) (writer - 1)
+      (taken_content setup (writer - 1) (taken_of old (writer - 1)).count taken)
 
 -- The chunk was found in another state than complete, or with another writer or id in its header, whose count and flags are in their
 -- ranges; the view has only the look.
@@ -195,9 +203,9 @@ call_of writer_call.Flushed = call.Flushed
 
 -- the event that a note says
 abbrev pub event_of : ServiceEvent → Noted
-event_of (event.Arrive sequence chunk_id) = Arrive sequence chunk_id
-event_of (event.Partial sequence chunk_id limit) = Partial sequence chunk_id limit
-event_of (event.Patched sequence chunk_id) = Patched sequence chunk_id
+event_of (event.Arrive sequence position) = Arrive sequence position
+event_of (event.Partial sequence position limit) = Partial sequence position limit
+event_of (event.Patched sequence position) = Patched sequence position
 event_of (event.Closed sequence) = Closed sequence
 event_of (event.Read sequence limit) = Read sequence limit
 
@@ -206,9 +214,19 @@ abbrev pub IsReadEvent : ServiceEvent → Type 0
 IsReadEvent (event.Read sequence limit) = Unit {0}
 IsReadEvent _ = ⊥
 
--- an image that came by a commit, with the patches given with it
-abbrev pub committed_of : ChunkHeader → List ℕ → List Patch → Committed
-committed_of header payload patches = record {
-  image = record { sequence = header.writer_id + 1; chunk_id = header.chunk_id; count = header.count; flags = header.flags; payload = payload };
-  patches = map patch_value patches;
+-- the image of a chunk with this header
+abbrev pub image_with : ChunkHeader → List ℕ → Image
+image_with header payload = record {
+  sequence = header.writer_id + 1;
+  chunk_id = header.chunk_id;
+  count = header.count;
+  flags = header.flags;
+  payload = payload;
+}
+
+-- An image that came by a commit, with the patches given with it. They come with ids, and are noted with positions.
+abbrev pub committed_of : Setup → ChunkHeader → List ℕ → List Patch → Committed
+committed_of setup header payload patches = record {
+  image = placed_image (from_of setup (header.writer_id - 1)) (image_with header payload);
+  patches = placed_patches (from_of setup (header.writer_id - 1)) (map patch_value patches);
 }

@@ -2,19 +2,19 @@
 use Rattle.std.specs.Prelude.{ℕ, List, [], slice_index_or}
 use Rattle.chunk_plain.specs.Views.{Draft, Content, WriterView, ServiceView, newcomer, newcomer_service}
 
--- what a chunk is used for, by which writer and under which id, with what it then holds
+-- what a chunk is used for, by which writer and at which of its positions, with what it then holds
 pub data Status : Type 0 where
   -- nobody has it
   Unclaimed : Status
   Claimed : (writer : ℕ) → Status
   -- claimed, and its header is stored
-  Stamped : (writer id : ℕ) → Status
+  Stamped : (writer position : ℕ) → Status
   -- its writer is writing it
-  Writing : (writer id : ℕ) → Draft → Status
+  Writing : (writer position : ℕ) → Draft → Status
   -- it is complete, and waits for the service
-  Ready : (writer id : ℕ) → Content → Status
+  Ready : (writer position : ℕ) → Content → Status
   -- the service is reading it
-  Reading : (writer id : ℕ) → Content → Status
+  Reading : (writer position : ℕ) → Content → Status
 
 -- the whole of a table: what each chunk's state is, and the views of all seats
 pub record World : Type 0 where

@@ -1,13 +1,14 @@
 //! The set-up of a table at run time.
 ghost use Rattle.std.specs.Prelude.{◌≡◌, ℕ, [], ◌+◌, ◌-◌, ◌*◌, ◌^◌, ◌<◌, ◌≤◌, ◌++◌, All, length, IfOk, OnOk, vec_len};
 ghost use Rattle.trace_base.specs.declared.limits.TheConstants.{MAX_CHUNKS_PER_PAGE, MAX_PRODUCERS, MAX_WRITERS, MAX_PAGES};
-ghost use Rattle.chunk_plain.specs.Setup.{spot, range_of};
+ghost use Rattle.chunk_plain.specs.Setup.{spot, range_of, id_at, position_at};
 ghost use Rattle.chunk_plain.specs.Laying.{page_spots, pages_spots, spots_of, ranges_of, sizes_of, pages_in, setup_of};
 
 use crate::setup::{ChunkRange, ProducerSpec, Spot};
 use page_geometry::Geometry;
 use std::alloc::{AllocError, Global};
 use std::marker::Model;
+use trace_base::ids::{id_of, position_of};
 use trace_base::policy::WriterSpec;
 
 /// Where each chunk lies, which chunks each producer has, and who writes.
@@ -60,6 +61,22 @@ impl Layout {
     {
         let range = self.ranges[producer as usize - 1];
         (range.first, range.count)
+    }
+
+    /// The id of the chunk at this position of the writer at this place, from 0.
+    pub fn id_at(&self, place: u16, position: u32) -> u32
+        requires { place < length self.now.writers }
+        ensures { result ≡ id_at self.now place position }
+    {
+        id_of(self.writers[place as usize].from, position)
+    }
+
+    /// The position of the chunk with this id.
+    pub fn position_at(&self, place: u16, id: u32) -> u32
+        requires { place < length self.now.writers }
+        ensures { result ≡ position_at self.now place id }
+    {
+        position_of(self.writers[place as usize].from, id)
     }
 
     /// Pages and chunks.

@@ -25,5 +25,5 @@ pub use notes::{ServiceEvent, WriterCall};
 pub use plain::PlainTable;
 pub use plain_seats::{PlainService, PlainWriter};
 pub use setup::{ChunkRange, ProducerSpec, Spot};
-pub use tokens::{Claimed, Held, ID_LIMIT, MAX_HELD, NotComplete, Seen, Taken};
+pub use tokens::{Claimed, Held, MAX_HELD, NotComplete, POSITION_LIMIT, Seen, Taken};
 pub use words::Words;

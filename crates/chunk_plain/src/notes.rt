@@ -31,6 +31,7 @@ pub enum WriterCall<'a> {
 }
 
 /// What the service did with chunks and sequences. An image that comes by a commit is noted with it.
+/// Here `chunk_id` names a chunk by its position in its sequence.
 #[derive(Clone, Copy, Debug, PartialEq, Eq)]
 pub enum ServiceEvent {
     /// A complete chunk arrived.

@@ -7,13 +7,13 @@ ghost use Rattle.page_geometry.specs.declared.chunk_header.TheConstants.{MAX_FLA
 ghost use Rattle.trace_base.specs.declared.limits.TheConstants.{MAX_FRAGMENTS};
 ghost use Rattle.page_geometry.specs.declared.chunk_state.ChunkState.TheVariants.{Complete as CompleteState};
 ghost use Rattle.page_geometry.specs.PageBits.{HasState};
-ghost use Rattle.chunk_plain.specs.declared.tokens.TheConstants.{ID_LIMIT};
-ghost use Rattle.chunk_plain.specs.declared.step.Step.TheVariants.{Stamp, Look, Take, Learn};
-ghost use Rattle.chunk_plain.specs.Setup.{Setup, spot};
+ghost use Rattle.chunk_plain.specs.declared.tokens.TheConstants.{POSITION_LIMIT};
+ghost use Rattle.chunk_plain.specs.declared.step.Step.TheVariants.{Stamp, Look, Take};
+ghost use Rattle.chunk_plain.specs.Setup.{Setup, spot, from_of, id_at};
 ghost use Rattle.chunk_plain.specs.Payload.{byte_at, byte_in, StoredUpTo};
 ghost use Rattle.chunk_plain.specs.Views.{Content, fresh, taken_of};
 ghost use Rattle.chunk_plain.specs.World.{World, Unclaimed, Writing, Ready, Reading, status, writer};
-ghost use Rattle.chunk_plain.specs.Steps.{begins, completes, with_words, drafted, moved, served, lets_go};
+ghost use Rattle.chunk_plain.specs.Steps.{begins, completes, with_words, learns, drafted, moved, served, serviced, lets_go};
 ghost use Rattle.chunk_plain.specs.Owned.{times};
 ghost use Rattle.chunk_plain.specs.Drafts.{IsHolding, draft_at, head_at};
 ghost use Rattle.chunk_plain.specs.Stored.{stored_at};
@@ -37,8 +37,8 @@ impl PlainTable {
         requires place { place < length self.old.layout.writers }
         requires claimed { HasClaimed (writer self.old.told.world place) chunk }
         requires unstamped { (writer self.old.told.world place).stamped ≡ None }
-        requires id { id ≡ length (writer self.old.told.world place).begun }
-        requires id_fits { id < ID_LIMIT }
+        requires id { id ≡ id_at self.old.layout place (length (writer self.old.told.world place).begun) }
+        requires few_begun { length (writer self.old.told.world place).begun < POSITION_LIMIT }
         ensures layout { self.new.layout ≡ self.old.layout }
         ensures slots { self.new.slots.items ≡ self.old.slots.items }
         ensures world { self.new.told.world ≡ world_after self.old.told.world (Stamp place chunk) }
@@ -58,7 +58,7 @@ impl PlainTable {
     pub(crate) fn set_written(&mut self, place: u16, chunk: u32)
         requires place { place < length self.old.layout.writers }
         requires stamped { (writer self.old.told.world place).stamped
-            ≡ Some (record { chunk = chunk; id = length (writer self.old.told.world place).begun }) }
+            ≡ Some (record { chunk = chunk; position = length (writer self.old.told.world place).begun }) }
         ensures layout { self.new.layout ≡ self.old.layout }
         ensures slots { self.new.slots.items ≡ self.old.slots.items }
         ensures world { self.new.told.world ≡ moved self.old.told.world place
@@ -104,55 +104,57 @@ impl PlainTable {
         &mut self,
         place: u16,
         chunk: u32,
-        id: u32,
+        position: u32,
         first: usize,
         end: usize,
         payload: &[u8],
     )
         requires place { place < length self.old.layout.writers }
-        requires held { IsHolding (writer self.old.told.world place) chunk id }
+        requires held { IsHolding (writer self.old.told.world place) chunk position }
         requires size { length payload.now ≡ (spot self.old.layout chunk).payload_size }
         requires order { first ≤ end }
         requires inside { 8 * end < length payload.now + 8 }
-        requires kept { KeepsSealed (writer self.old.told.world place) id payload.now }
+        requires kept { KeepsSealed (writer self.old.told.world place) position payload.now }
         ensures layout { self.new.layout ≡ self.old.layout }
-        ensures words { StoredUpTo payload.now first end (draft_at (writer self.old.told.world place) id).words
+        ensures words { StoredUpTo payload.now first end (draft_at (writer self.old.told.world place) position).words
             (stored_at self.new.slots.items chunk).words }
-        ensures world { self.new.told.world ≡ drafted self.old.told.world place chunk id
-            (with_words (draft_at (writer self.old.told.world place) id) (stored_at self.new.slots.items chunk).words) }
+        ensures world { self.new.told.world ≡ drafted self.old.told.world place chunk position
+            (with_words (draft_at (writer self.old.told.world place) position) (stored_at self.new.slots.items chunk).words) }
     {
         put_words(&mut self.slots, chunk, first, end, payload);
         let step = Step::Publish {
             place,
             chunk,
-            id,
+            position,
             words: words_of(&self.slots, chunk),
         };
         make_step(&mut self.told, &step);
     }
 
     /// Completes a chunk whose body is back, and whose words hold its payload.
-    pub(crate) fn set_complete(&mut self, place: u16, chunk: u32, id: u32)
+    pub(crate) fn set_complete(&mut self, place: u16, chunk: u32, position: u32)
         requires place { place < length self.old.layout.writers }
-        requires held { IsHolding (writer self.old.told.world place) chunk id }
+        requires held { IsHolding (writer self.old.told.world place) chunk position }
         requires body { IsSome (stored_at self.old.slots.items chunk).body }
         requires whole { IfSome (stored_at self.old.slots.items chunk).body (λ body.
-            StandsWhole (spot self.old.layout chunk).payload_size (writer self.old.told.world place) id body) }
+            StandsWhole (spot self.old.layout chunk).payload_size (writer self.old.told.world place) position body) }
         ensures layout { self.new.layout ≡ self.old.layout }
         ensures world { IfSome (stored_at self.old.slots.items chunk).body (λ body.
             self.new.told.world ≡ moved self.old.told.world place
-            (completes (writer self.old.told.world place) chunk id
-            (content_of place id (head_at (writer self.old.told.world place) id) body)) chunk
-            (Ready place id (content_of place id (head_at (writer self.old.told.world place) id) body))) }
+            (completes (writer self.old.told.world place) chunk position
+            (content_of (from_of self.old.layout place) place position (head_at (writer self.old.told.world place) position) body)) chunk
+            (Ready place position
+            (content_of (from_of self.old.layout place) place position (head_at (writer self.old.told.world place) position) body))) }
     {
         let spot = self.layout.spot(chunk);
         let page = spot.page as usize;
         let found = self.words[page];
         self.words[page] = found | complete_mask(spot.place);
         let step = Step::Complete {
+            layout: &self.layout,
             place,
             chunk,
-            id,
+            position,
             body: body_of(&self.slots, chunk),
         };
         make_step(&mut self.told, &step);
@@ -229,12 +231,16 @@ impl PlainTable {
         requires place { place < length self.old.layout.writers }
         requires last { (taken_of self.old.told.world.service place).count
             ≡ length (taken_of self.old.told.world.service place).contents + 1 }
-        requires content { ∥ status self.old.told.world chunk ≡ Reading place (length (taken_of self.old.told.world.service place).contents)
-            (content_of place header.chunk_id (record { count = header.count; flags = header.flags }) body.now) ∥₁ }
+        requires content { let position = length (taken_of self.old.told.world.service place).contents in
+            ∥ status self.old.told.world chunk ≡ Reading place position (content_of (from_of self.old.layout place) place position
+            (record { count = header.count; flags = header.flags }) body.now) ∥₁ }
         ensures layout { self.new.layout ≡ self.old.layout }
-        ensures world { self.new.told.world ≡ world_after self.old.told.world (Learn place header body.entry) }
+        ensures world { let position = length (taken_of self.old.told.world.service place).contents in
+            self.new.told.world ≡ serviced self.old.told.world (learns self.old.told.world.service place
+            (content_of (from_of self.old.layout place) place position (record { count = header.count; flags = header.flags }) body.now)) }
     {
         let step = Step::Learn {
+            layout: &self.layout,
             place,
             header,
             body,

@@ -52,7 +52,7 @@ impl Words for PlainTable {
     ghost learnt = { λ table seat serves n look found content at is has.
         let fact : IsKept table.layout table.words.items table.slots.items table.told.world → (chunk : ℕ) × StillHas look.chunk found (Completed chunk content) = λ kept.
         let there = (kept.owned.looks n look found at is).1 in
-        let done = (kept.owned.counts found.place).learnt found.id content has in
+        let done = (kept.owned.counts found.place).learnt found.position content has in
         (done.0, subst (StillHas look.chunk found) (some-injective there.entry (Completed done.0 content) (sym there.at ∙ done.1)) there.has) in (
           record {
             count_grows = ∥∥₁_elim table.kept (Prim.hlevel le_prop) (λ kept. (fact kept).1.1.count_grows);
@@ -62,12 +62,12 @@ impl Words for PlainTable {
           λ j below. ∥∥₁_elim table.kept (ℕ_set _ _) (λ kept. (fact kept).1.3 j below),
         ) };
 
-    ghost looks_agree = { λ table seat serves n m look later found other at is then was place id.
+    ghost looks_agree = { λ table seat serves n m look later found other at is then was place position.
         let both : IsKept table.layout table.words.items table.slots.items table.told.world → HasBoth look.chunk found later.chunk other = λ kept.
         let here = kept.owned.looks n look found at is in
         let there = kept.owned.looks m later other then was in
-        let moved = subst (λ (i : ℕ). At (writer table.told.world found.place).begun i there.1.entry) (sym id)
-        (subst (λ (p : ℕ). At (writer table.told.world p).begun other.id there.1.entry) (sym place) there.1.at) in
+        let moved = subst (λ (i : ℕ). At (writer table.told.world found.place).begun i there.1.entry) (sym position)
+        (subst (λ (p : ℕ). At (writer table.told.world p).begun other.position there.1.entry) (sym place) there.1.at) in
         let same = some-injective here.1.entry there.1.entry (sym here.1.at ∙ moved) in
         record {
           entry = here.1.entry;
@@ -111,11 +111,16 @@ impl Words for PlainTable {
 
     fn begin(&mut self, seat: &mut PlainWriter, claimed: Claimed, id: u32) -> Held {
         let Claimed { chunk } = claimed;
+        let position = self.layout.position_at(seat.place, id);
         self.store_first_header(seat.place, chunk, id);
         self.set_written(seat.place, chunk);
         let mut body = self.take_body(chunk);
         body.patches.clear();
-        Held { chunk, id, body }
+        Held {
+            chunk,
+            position,
+            body,
+        }
     }
 
     fn publish(&mut self, seat: &mut PlainWriter, held: &mut Held, from: u32, to: u32) {
@@ -124,7 +129,7 @@ impl Words for PlainTable {
         self.store_words(
             seat.place,
             held.chunk,
-            held.id,
+            held.position,
             first,
             end,
             &held.body.payload,
@@ -133,9 +138,9 @@ impl Words for PlainTable {
 
     fn set_header(&mut self, seat: &mut PlainWriter, held: &mut Held, count: u16, flags: u8) {
         let chunk = held.chunk;
-        let id = held.id;
+        let position = held.position;
         let header = ChunkHeader {
-            chunk_id: id,
+            chunk_id: self.layout.id_at(seat.place, position),
             writer_id: seat.place + 1,
             count,
             flags,
@@ -145,7 +150,7 @@ impl Words for PlainTable {
         let step = Step::SetHeader {
             place: seat.place,
             chunk,
-            id,
+            position,
             count,
             flags,
         };
@@ -153,9 +158,13 @@ impl Words for PlainTable {
     }
 
     fn complete(&mut self, seat: &mut PlainWriter, held: Held) {
-        let Held { chunk, id, body } = held;
+        let Held {
+            chunk,
+            position,
+            body,
+        } = held;
         self.put_body(chunk, body);
-        self.set_complete(seat.place, chunk, id);
+        self.set_complete(seat.place, chunk, position);
     }
 
     fn look(&mut self, _seat: &mut PlainService, chunk: u32) -> Seen {
@@ -227,6 +236,7 @@ impl Words for PlainTable {
         patches: &[Patch],
     ) {
         let step = Step::Commit {
+            layout: &self.layout,
             header,
             payload,
             patches,

@@ -1,10 +1,12 @@
 //! What each step of the table of one thread does, as a value.
+use crate::layout::Layout;
 use crate::notes::{ServiceEvent, WriterCall};
 use commit_body::{CommitBody, Patch};
 use page_geometry::ChunkHeader;
 
-/// A step with all that the views of the seats keep of it. Writers go by their place, from 0.
-#[derive(Clone, Copy, Debug)]
+/// A step with all that the views of the seats keep of it. Writers go by their place, from 0, and
+/// chunks of a writer by their position. The set-up says by which ids a body and a header name them.
+#[derive(Clone, Copy)]
 pub enum Step<'a> {
     Claim {
         place: u16,
@@ -24,20 +26,21 @@ pub enum Step<'a> {
     SetHeader {
         place: u16,
         chunk: u32,
-        id: u32,
+        position: u32,
         count: u16,
         flags: u8,
     },
     Publish {
         place: u16,
         chunk: u32,
-        id: u32,
+        position: u32,
         words: &'a [u64],
     },
     Complete {
+        layout: &'a Layout,
         place: u16,
         chunk: u32,
-        id: u32,
+        position: u32,
         body: &'a CommitBody,
     },
     Look {
@@ -52,6 +55,7 @@ pub enum Step<'a> {
         header: ChunkHeader,
     },
     Learn {
+        layout: &'a Layout,
         place: u16,
         header: ChunkHeader,
         body: &'a CommitBody,
@@ -67,6 +71,7 @@ pub enum Step<'a> {
         event: ServiceEvent,
     },
     Commit {
+        layout: &'a Layout,
         header: ChunkHeader,
         payload: &'a [u8],
         patches: &'a [Patch],

@@ -7,8 +7,8 @@ use page_geometry::{ChunkHeader, PageWord};
 /// that before it completes the first.
 pub const MAX_HELD: usize = 2;
 
-/// Chunk ids are below this.
-pub const ID_LIMIT: u32 = 4_294_967_295;
+/// Positions of chunks are below this: a writer begins at most so many.
+pub const POSITION_LIMIT: u32 = 4_294_967_295;
 
 /// A chunk that a writer claimed and hasn't begun.
 #[derive(Debug)]
@@ -17,11 +17,14 @@ pub struct Claimed {
 }
 
 /// A chunk that a writer writes, with its body. The writer writes into the body itself; the payload
-/// in it is a copy of its own, of which the chunk has what the writer published.
+/// in it is a copy of its own, of which the chunk has what the writer published. Patches in it name
+/// chunks by their ids, as they travel.
 #[derive(Debug)]
 pub struct Held {
     pub chunk: u32,
-    pub id: u32,
+    /// Its position among the chunks that the writer began: the id in its header is worked out from
+    /// it.
+    pub position: u32,
     pub body: CommitBody,
 }
 

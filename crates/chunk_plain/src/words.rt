@@ -3,7 +3,7 @@ ghost use Rattle.std.specs.Prelude.{◌≡◌, ℕ, ◌+◌, ◌-◌, ◌<◌, �
 ghost use Rattle.page_geometry.specs.declared.chunk_header.TheConstants.{MAX_FLAGS};
 ghost use Rattle.page_geometry.specs.Header.{packed};
 ghost use Rattle.trace_base.specs.declared.limits.TheConstants.{MAX_FRAGMENTS};
-ghost use Rattle.chunk_plain.specs.declared.tokens.TheConstants.{MAX_HELD, ID_LIMIT};
+ghost use Rattle.chunk_plain.specs.declared.tokens.TheConstants.{MAX_HELD, POSITION_LIMIT};
 ghost use Rattle.chunk_plain.specs.Setup.{spot, producer_of, IsChunkOf, IsLaid, id_at};
 ghost use Rattle.chunk_plain.specs.Payload.{sealed_to, HasFragments};
 ghost use Rattle.chunk_plain.specs.Views.{Content, taken_of};
@@ -46,72 +46,75 @@ pub trait Words {
         ensures told_lost { IfNone result ((world : World) → means.told self.old ≡ Some world → (status world chunk ≡ Unclaimed → ⊥)
             × (means.told self.new ≡ Some (with_writer_view world (means.place seat.old) (means.view self.new seat.new)))) };
 
-    /// The header of the chunk is stored with count 0, and then its state is set. The patches that
-    /// the body brought before are dropped; what its payload holds is left over from other chunks.
+    /// The header of the chunk is stored with this id, that of the writer's next position, and with
+    /// count 0, and then its state is set. The patches that the body brought before are dropped; what
+    /// its payload holds is left over from other chunks.
     fn begin(&mut self, seat: &mut Self::Writer, claimed: Claimed, id: u32) -> Held
         requires seat { means.sits self.old seat.old }
         requires claimed { HasClaimed (means.view self.old seat.old) claimed.chunk }
         requires few { held_count (means.view self.old seat.old).begun < MAX_HELD }
         requires id { id ≡ id_at (means.setup self.old) (means.place seat.old) (length (means.view self.old seat.old).begun) }
-        requires id_fits { id < ID_LIMIT }
-        ensures held { IsBegun (means.setup self.old) claimed.chunk id result }
+        requires few_begun { length (means.view self.old seat.old).begun < POSITION_LIMIT }
+        ensures held { IsBegun (means.setup self.old) claimed.chunk (length (means.view self.old seat.old).begun) result }
         ensures view { BeginsChunk (means.setup self.old) claimed.chunk (means.view self.old seat.old) (means.view self.new seat.new) }
         ensures step { IsWriterStep means self.old seat.old self.new seat.new }
         ensures told { (world : World) → means.told self.old ≡ Some world
             → means.told self.new ≡ Some (moved world (means.place seat.old) (means.view self.new seat.new) claimed.chunk
-            (Writing (means.place seat.old) id (draft_at (means.view self.new seat.new) id))) };
+            (Writing (means.place seat.old) (length (means.view self.old seat.old).begun)
+            (draft_at (means.view self.new seat.new) (length (means.view self.old seat.old).begun)))) };
 
     /// Stores each payload word that has a byte of this range of the held payload. What was counted
     /// and finished before must stand in the copy as it was published: it may be read meanwhile.
     fn publish(&mut self, seat: &mut Self::Writer, held: &mut Held, from: u32, to: u32)
         requires seat { means.sits self.old seat.old }
-        requires held { IsHolding (means.view self.old seat.old) held.old.chunk held.old.id }
+        requires held { IsHolding (means.view self.old seat.old) held.old.chunk held.old.position }
         requires size { vec_len held.old.body.payload ≡ (spot (means.setup self.old) held.old.chunk).payload_size }
         requires order { from ≤ to }
         requires inside { to ≤ (spot (means.setup self.old) held.old.chunk).payload_size }
-        requires kept { KeepsSealed (means.view self.old seat.old) held.old.id held.old.body.payload.items }
+        requires kept { KeepsSealed (means.view self.old seat.old) held.old.position held.old.body.payload.items }
         ensures held { held.new ≡ held.old }
-        ensures view { PublishesBytes held.old.chunk held.old.id from to held.old.body.payload.items
+        ensures view { PublishesBytes held.old.chunk held.old.position from to held.old.body.payload.items
             (means.view self.old seat.old) (means.view self.new seat.new) }
         ensures step { IsWriterStep means self.old seat.old self.new seat.new }
         ensures told { (world : World) → means.told self.old ≡ Some world
             → means.told self.new ≡ Some (moved world (means.place seat.old) (means.view self.new seat.new) held.old.chunk
-            (Writing (means.place seat.old) held.old.id (draft_at (means.view self.new seat.new) held.old.id))) };
+            (Writing (means.place seat.old) held.old.position (draft_at (means.view self.new seat.new) held.old.position))) };
 
     /// Stores the header. The fragments before the last one counted are finished from now on: what
     /// was published of the payload reads as so many.
     fn set_header(&mut self, seat: &mut Self::Writer, held: &mut Held, count: u16, flags: u8)
         requires seat { means.sits self.old seat.old }
-        requires held { IsHolding (means.view self.old seat.old) held.old.chunk held.old.id }
+        requires held { IsHolding (means.view self.old seat.old) held.old.chunk held.old.position }
         requires count_fits { count ≤ MAX_FRAGMENTS }
         requires flags_fit { flags ≤ MAX_FLAGS }
-        requires follows { MayFollow (head_at (means.view self.old seat.old) held.old.id) (record { count = count; flags = flags }) }
-        requires reads { HasFragments (published (means.view self.old seat.old) held.old.id)
-            (ends_by (means.view self.old seat.old) held.old.id count) }
-        requires inside { sealed_to (ends_by (means.view self.old seat.old) held.old.id count)
+        requires follows { MayFollow (head_at (means.view self.old seat.old) held.old.position) (record { count = count; flags = flags }) }
+        requires reads { HasFragments (published (means.view self.old seat.old) held.old.position)
+            (ends_by (means.view self.old seat.old) held.old.position count) }
+        requires inside { sealed_to (ends_by (means.view self.old seat.old) held.old.position count)
             ≤ (spot (means.setup self.old) held.old.chunk).payload_size }
         ensures held { held.new ≡ held.old }
-        ensures view { means.view self.new seat.new ≡ redrafts (means.view self.old seat.old) held.old.chunk held.old.id
-            (with_head (draft_at (means.view self.old seat.old) held.old.id) (record { count = count; flags = flags })
-            (ends_by (means.view self.old seat.old) held.old.id count)) }
+        ensures view { means.view self.new seat.new ≡ redrafts (means.view self.old seat.old) held.old.chunk held.old.position
+            (with_head (draft_at (means.view self.old seat.old) held.old.position) (record { count = count; flags = flags })
+            (ends_by (means.view self.old seat.old) held.old.position count)) }
         ensures step { IsWriterStep means self.old seat.old self.new seat.new }
         ensures told { (world : World) → means.told self.old ≡ Some world
             → means.told self.new ≡ Some (moved world (means.place seat.old) (means.view self.new seat.new) held.old.chunk
-            (Writing (means.place seat.old) held.old.id (draft_at (means.view self.new seat.new) held.old.id))) };
+            (Writing (means.place seat.old) held.old.position (draft_at (means.view self.new seat.new) held.old.position))) };
 
     /// The body goes back into the table, and then the state is set. Every byte of the payload was
     /// published.
     fn complete(&mut self, seat: &mut Self::Writer, held: Held)
         requires seat { means.sits self.old seat.old }
-        requires held { IsHolding (means.view self.old seat.old) held.chunk held.id }
+        requires held { IsHolding (means.view self.old seat.old) held.chunk held.position }
         requires size { vec_len held.body.payload ≡ (spot (means.setup self.old) held.chunk).payload_size }
-        requires published { IsPublished (means.view self.old seat.old) held.id held.body.payload.items }
-        ensures view { means.view self.new seat.new ≡ completes (means.view self.old seat.old) held.chunk held.id
-            (completed_content (means.place seat.old) (means.view self.old seat.old) held) }
+        requires published { IsPublished (means.view self.old seat.old) held.position held.body.payload.items }
+        ensures view { means.view self.new seat.new ≡ completes (means.view self.old seat.old) held.chunk held.position
+            (completed_content (means.setup self.old) (means.place seat.old) (means.view self.old seat.old) held) }
         ensures step { IsWriterStep means self.old seat.old self.new seat.new }
         ensures told { (world : World) → means.told self.old ≡ Some world
             → means.told self.new ≡ Some (moved world (means.place seat.old) (means.view self.new seat.new) held.chunk
-            (Ready (means.place seat.old) held.id (completed_content (means.place seat.old) (means.view self.old seat.old) held))) };
+            (Ready (means.place seat.old) held.position
+            (completed_content (means.setup self.old) (means.place seat.old) (means.view self.old seat.old) held))) };
 
     /// Two loads: the chunk's page word and its header word. Where the chunk is being written, what
     /// its finished fragments are joins the view; `load` tells them.
@@ -143,9 +146,9 @@ pub trait Words {
         ensures shown { (world : World) → means.told self.old ≡ Some world → ∥ ShowsPayload (status world chunk) into.new ∥₁ }
         ensures told { (world : World) → means.told self.old ≡ Some world → means.told self.new ≡ Some world };
 
-    /// Takes the next chunk of the writer with this number: its state is set, its payload is loaded,
-    /// and then its content joins the view. After `NotComplete` nothing has changed but the view,
-    /// which has the look.
+    /// Takes the next chunk of the writer with this number, by its id: its state is set, its payload is
+    /// loaded, and then its content joins the view. After `NotComplete` nothing has changed but the
+    /// view, which has the look.
     fn take(
         &mut self,
         seat: &mut Self::Service,
@@ -165,11 +168,14 @@ pub trait Words {
             (means.service_view self.old seat.old) (means.service_view self.new seat.new)) }
         ensures step { IsServiceStep means self.old seat.old self.new seat.new }
         ensures told_taken { IfOk result (λ taken. (world : World) → means.told self.old ≡ Some world
-            → ∥ status world chunk ≡ Ready (writer - 1) id (taken_content (writer - 1) taken) ∥₁
+            → let position = (taken_of (means.service_view self.old seat.old) (writer - 1)).count in
+            let content = taken_content (means.setup self.old) (writer - 1) position taken in
+            ∥ status world chunk ≡ Ready (writer - 1) position content ∥₁
             × (means.told self.new ≡ Some (served world (means.service_view self.new seat.new) chunk
-            (Reading (writer - 1) id (taken_content (writer - 1) taken))))) }
+            (Reading (writer - 1) position content)))) }
         ensures told_other { IfErr result (λ _. (world : World) → means.told self.old ≡ Some world
-            → ((content : Content) → status world chunk ≡ Ready (writer - 1) id content → ⊥)
+            → ((content : Content) → status world chunk
+            ≡ Ready (writer - 1) (taken_of (means.service_view self.old seat.old) (writer - 1)).count content → ⊥)
             × (means.told self.new ≡ Some (serviced world (means.service_view self.new seat.new)))) };
 
     /// The body goes back into the table, and then the chunk is free.
@@ -197,7 +203,7 @@ pub trait Words {
         ensures told { (world : World) → means.told self.old ≡ Some world
             → means.told self.new ≡ Some (serviced world (means.service_view self.new seat.new)) };
 
-    /// An image came by a commit, with these patches.
+    /// An image came by a commit, with these patches; both name chunks by their ids.
     fn note_commit(
         &mut self,
         seat: &mut Self::Service,
@@ -207,7 +213,7 @@ pub trait Words {
     )
         requires { means.serves self.old seat.old }
         ensures view { means.service_view self.new seat.new ≡ notes_commit (means.service_view self.old seat.old)
-            (committed_of header payload.now patches.now) }
+            (committed_of (means.setup self.old) header payload.now patches.now) }
         ensures step { IsServiceStep means self.old seat.old self.new seat.new }
         ensures told { (world : World) → means.told self.old ≡ Some world
             → means.told self.new ≡ Some (serviced world (means.service_view self.new seat.new)) };
@@ -224,7 +230,7 @@ pub trait Words {
     // what was found of a chunk while it was written is in its content
     ghost learnt: { (table : Self) (seat : Self.Service) → means.serves table seat → LearntAsFound (means.service_view table seat) };
 
-    // looks that found a chunk of the same writer and id found what one begun chunk has
+    // looks that found a chunk of the same writer and position found what one begun chunk has
     ghost looks_agree: { (table : Self) (seat : Self.Service) → means.serves table seat → LooksAgree (means.service_view table seat) };
 
     // a seat's view is its part of the world that the table tells

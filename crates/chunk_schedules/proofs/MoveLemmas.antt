@@ -10,6 +10,7 @@ use Rattle.chunk_plain.proofs.WriterSteps.{claims_owned, misses_owned, notes_own
 use Rattle.chunk_plain.proofs.EntrySteps.{heads_owned, publishes_owned, completes_owned}
 use Rattle.chunk_plain.proofs.ServiceSteps.{takes_owned, learns_owned, lets_go_owned}
 use Rattle.chunk_plain.proofs.Owned.{serviced_owned, looks_owned}
+use Rattle.chunk_plain.specs.Setup.{Setup}
 use Rattle.chunk_schedules.specs.Moves.{Move, Claims, Stamps, Begins, SetsHeader, Publishes, Completes, Calls, Looks, Takes, Learns, Releases, Notes, Commits, HearsOf, Answers, Requests, ReadsAnswer, MayMove, IsWriter, IsChunk, IsNext, claimed_in, behind}
 
 -- a claim, by what the chunk is used for
@@ -17,10 +18,10 @@ claims_keep : (world : World) (place chunk found : ℕ) → IsOwned world → Is
     → IsOwned (claimed_in world place chunk found is)
 claims_keep world place chunk found owned inside there Unclaimed free = claims_owned world place chunk found owned inside there free
 claims_keep world place chunk found owned inside there (Claimed other) is = misses_owned world place chunk found owned inside (λ free. absurd cc)
-claims_keep world place chunk found owned inside there (Stamped other id) is = misses_owned world place chunk found owned inside (λ free. absurd cc)
-claims_keep world place chunk found owned inside there (Writing other id draft) is = misses_owned world place chunk found owned inside (λ free. absurd cc)
-claims_keep world place chunk found owned inside there (Ready other id content) is = misses_owned world place chunk found owned inside (λ free. absurd cc)
-claims_keep world place chunk found owned inside there (Reading other id content) is = misses_owned world place chunk found owned inside (λ free. absurd cc)
+claims_keep world place chunk found owned inside there (Stamped other position) is = misses_owned world place chunk found owned inside (λ free. absurd cc)
+claims_keep world place chunk found owned inside there (Writing other position draft) is = misses_owned world place chunk found owned inside (λ free. absurd cc)
+claims_keep world place chunk found owned inside there (Ready other position content) is = misses_owned world place chunk found owned inside (λ free. absurd cc)
+claims_keep world place chunk found owned inside there (Reading other position content) is = misses_owned world place chunk found owned inside (λ free. absurd cc)
 
 -- a chunk is taken behind a look at it
 takes_keep : (world : World) (place chunk word header : ℕ) → IsOwned world → IsWriter world place → IsChunk world chunk → IsNext world place chunk
@@ -32,31 +33,31 @@ takes_keep world place chunk word header owned inside there next =
     subst (λ (to : Status). IsOwned (served world (takes_in (looks_at world.service chunk word header None) place chunk) chunk to))
     (sym (ap read_as next.1)) taken
 
-pub move_keeps : (world : World) (move : Move) → MayMove world move → IsOwned world → IsOwned (behind world move)
-move_keeps world (Claims place chunk found) may owned = claims_keep world place chunk found owned may.0 may.1 (status world chunk) refl
-move_keeps world (Stamps place chunk) may owned = stamps_owned world place chunk owned may.0 may.1 may.2 may.3
-move_keeps world (Begins place chunk words) may owned = begins_owned world place chunk words owned may.0 may.1 may.2
-move_keeps world (SetsHeader place chunk id head) may owned =
-    heads_owned world place chunk id (draft_at (writer world place) id) head (ends_by (writer world place) id head.count) owned may.0 may.1 may.2
+pub move_keeps : (setup : Setup) (world : World) (move : Move) → MayMove setup world move → IsOwned world → IsOwned (behind world move)
+move_keeps setup world (Claims place chunk found) may owned = claims_keep world place chunk found owned may.0 may.1 (status world chunk) refl
+move_keeps setup world (Stamps place chunk) may owned = stamps_owned world place chunk owned may.0 may.1 may.2 may.3
+move_keeps setup world (Begins place chunk words) may owned = begins_owned world place chunk words owned may.0 may.1 may.2
+move_keeps setup world (SetsHeader place chunk position head) may owned =
+    heads_owned world place chunk position (draft_at (writer world place) position) head (ends_by (writer world place) position head.count) owned may.0 may.1 may.2
     may.3.follows may.3.reads
-move_keeps world (Publishes place chunk id index word) may owned =
-    publishes_owned world place chunk id index word (draft_at (writer world place) id) owned may.0 may.1 may.2 may.3.inside may.3.kept
-move_keeps world (Completes place chunk id content) may owned =
-    completes_owned world place chunk id (draft_at (writer world place) id) content owned may.0 may.1 may.2
-    may.3.id_is may.3.sequence_is may.3.head_is may.3.inside may.3.bytes
-move_keeps world (Calls place call) may owned = notes_call_owned world place call owned may
-move_keeps world (Looks chunk word header found) may owned = looks_owned world chunk word header found owned may.there
-move_keeps world (Takes place chunk word header) may owned = takes_keep world place chunk word header owned may.0 may.1 may.2
-move_keeps world (Learns place chunk content) may owned = learns_owned world place chunk content owned may.0 may.1.taken may.1.completed
-move_keeps world (Releases chunk) may owned = lets_go_owned world chunk may.1.0 may.1.1 may.1.2 owned may.0 may.1.3
-move_keeps world (Notes event) may owned = serviced_owned world (notes world.service event) owned refl refl refl
-move_keeps world (Commits committed) may owned = serviced_owned world (notes_commit world.service committed) owned refl refl refl
-move_keeps world (HearsOf place number) may owned =
+move_keeps setup world (Publishes place chunk position index word) may owned =
+    publishes_owned world place chunk position index word (draft_at (writer world place) position) owned may.0 may.1 may.2 may.3.inside may.3.kept
+move_keeps setup world (Completes place chunk position content) may owned =
+    completes_owned world place chunk position (draft_at (writer world place) position) content owned may.0 may.1 may.2
+    may.3.position_is may.3.sequence_is may.3.head_is may.3.inside may.3.bytes
+move_keeps setup world (Calls place call) may owned = notes_call_owned world place call owned may
+move_keeps setup world (Looks chunk word header found) may owned = looks_owned world chunk word header found owned may.there
+move_keeps setup world (Takes place chunk word header) may owned = takes_keep world place chunk word header owned may.0 may.1 may.2
+move_keeps setup world (Learns place chunk content) may owned = learns_owned world place chunk content owned may.0 may.1.taken may.1.completed
+move_keeps setup world (Releases chunk) may owned = lets_go_owned world chunk may.1.0 may.1.1 may.1.2 owned may.0 may.1.3
+move_keeps setup world (Notes event) may owned = serviced_owned world (notes world.service event) owned refl refl refl
+move_keeps setup world (Commits committed) may owned = serviced_owned world (notes_commit world.service committed) owned refl refl refl
+move_keeps setup world (HearsOf place number) may owned =
     notes_owned world place (writer world place).calls (record (writer world place).letters { known = number }) owned may.0
-move_keeps world (Answers place flush chunks) may owned =
+move_keeps setup world (Answers place flush chunks) may owned =
     notes_owned world place (writer world place).calls (answers_with (writer world place) flush chunks).letters owned may.0
-move_keeps world Requests may owned = serviced_owned world (requests world.service) owned refl refl refl
-move_keeps world (ReadsAnswer place flush chunks) may owned =
+move_keeps setup world Requests may owned = serviced_owned world (requests world.service) owned refl refl refl
+move_keeps setup world (ReadsAnswer place flush chunks) may owned =
     serviced_owned world (hears_answer world.service place flush chunks) owned refl refl refl
 
 -- as many writers
@@ -64,18 +65,18 @@ move_keeps world (ReadsAnswer place flush chunks) may owned =
 claimed_writers : (world : World) (place chunk found : ℕ) (is : Status) → length (claimed_in world place chunk found is).writers ≡ length world.writers
 claimed_writers world place chunk found Unclaimed = length-set world.writers place _
 claimed_writers world place chunk found (Claimed other) = length-set world.writers place _
-claimed_writers world place chunk found (Stamped other id) = length-set world.writers place _
-claimed_writers world place chunk found (Writing other id draft) = length-set world.writers place _
-claimed_writers world place chunk found (Ready other id content) = length-set world.writers place _
-claimed_writers world place chunk found (Reading other id content) = length-set world.writers place _
+claimed_writers world place chunk found (Stamped other position) = length-set world.writers place _
+claimed_writers world place chunk found (Writing other position draft) = length-set world.writers place _
+claimed_writers world place chunk found (Ready other position content) = length-set world.writers place _
+claimed_writers world place chunk found (Reading other position content) = length-set world.writers place _
 
 pub move_writers : (world : World) (move : Move) → length (behind world move).writers ≡ length world.writers
 move_writers world (Claims place chunk found) = claimed_writers world place chunk found (status world chunk)
 move_writers world (Stamps place chunk) = length-set world.writers place _
 move_writers world (Begins place chunk words) = length-set world.writers place _
-move_writers world (SetsHeader place chunk id head) = length-set world.writers place _
-move_writers world (Publishes place chunk id index word) = length-set world.writers place _
-move_writers world (Completes place chunk id content) = length-set world.writers place _
+move_writers world (SetsHeader place chunk position head) = length-set world.writers place _
+move_writers world (Publishes place chunk position index word) = length-set world.writers place _
+move_writers world (Completes place chunk position content) = length-set world.writers place _
 move_writers world (Calls place call) = length-set world.writers place _
 move_writers world (Looks chunk word header found) = refl
 move_writers world (Takes place chunk word header) = refl
@@ -93,18 +94,18 @@ move_writers world (ReadsAnswer place flush chunks) = refl
 claimed_chunks : (world : World) (place chunk found : ℕ) (is : Status) → length (claimed_in world place chunk found is).chunks ≡ length world.chunks
 claimed_chunks world place chunk found Unclaimed = length-set world.chunks chunk _
 claimed_chunks world place chunk found (Claimed other) = refl
-claimed_chunks world place chunk found (Stamped other id) = refl
-claimed_chunks world place chunk found (Writing other id draft) = refl
-claimed_chunks world place chunk found (Ready other id content) = refl
-claimed_chunks world place chunk found (Reading other id content) = refl
+claimed_chunks world place chunk found (Stamped other position) = refl
+claimed_chunks world place chunk found (Writing other position draft) = refl
+claimed_chunks world place chunk found (Ready other position content) = refl
+claimed_chunks world place chunk found (Reading other position content) = refl
 
 pub move_chunks : (world : World) (move : Move) → length (behind world move).chunks ≡ length world.chunks
 move_chunks world (Claims place chunk found) = claimed_chunks world place chunk found (status world chunk)
 move_chunks world (Stamps place chunk) = length-set world.chunks chunk _
 move_chunks world (Begins place chunk words) = length-set world.chunks chunk _
-move_chunks world (SetsHeader place chunk id head) = length-set world.chunks chunk _
-move_chunks world (Publishes place chunk id index word) = length-set world.chunks chunk _
-move_chunks world (Completes place chunk id content) = length-set world.chunks chunk _
+move_chunks world (SetsHeader place chunk position head) = length-set world.chunks chunk _
+move_chunks world (Publishes place chunk position index word) = length-set world.chunks chunk _
+move_chunks world (Completes place chunk position content) = length-set world.chunks chunk _
 move_chunks world (Calls place call) = refl
 move_chunks world (Looks chunk word header found) = refl
 move_chunks world (Takes place chunk word header) = length-set world.chunks chunk _

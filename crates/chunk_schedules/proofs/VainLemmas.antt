@@ -8,6 +8,7 @@ use Rattle.chunk_plain.specs.Steps.{claims}
 use Rattle.chunk_plain.specs.Plain.{first_world}
 use Rattle.chunk_plain.proofs.Lists.{changed, at_more}
 use Rattle.chunk_plain.proofs.MadeLemmas.{all_same}
+use Rattle.chunk_plain.specs.Setup.{Setup}
 use Rattle.chunk_schedules.specs.Moves.{Move, Claims, Stamps, Begins, SetsHeader, Publishes, Completes, Calls, Looks, Takes, Learns, Releases, Notes, Commits, HearsOf, Answers, Requests, ReadsAnswer, MayMove, IsWriter, claimed_in, behind}
 use Rattle.chunk_schedules.specs.Schedules.{IsSchedule}
 use Rattle.chunk_schedules.specs.Laws.{ClaimsInVainFindHad, FindsHad}
@@ -64,36 +65,36 @@ claims_stood : (world : World) (mover chunk found place number : ℕ) (ask : Ask
     → StoodOrMade world (Claims mover chunk found) place number ask
 claims_stood world mover chunk found place number ask inside lost Unclaimed is = wins world mover chunk found place number ask inside lost
 claims_stood world mover chunk found place number ask inside lost (Claimed other) is = loses world mover chunk found place number ask inside (λ free. absurd cc)
-claims_stood world mover chunk found place number ask inside lost (Stamped other id) is = loses world mover chunk found place number ask inside (λ free. absurd cc)
-claims_stood world mover chunk found place number ask inside lost (Writing other id draft) is = loses world mover chunk found place number ask inside (λ free. absurd cc)
-claims_stood world mover chunk found place number ask inside lost (Ready other id content) is = loses world mover chunk found place number ask inside (λ free. absurd cc)
-claims_stood world mover chunk found place number ask inside lost (Reading other id content) is = loses world mover chunk found place number ask inside (λ free. absurd cc)
+claims_stood world mover chunk found place number ask inside lost (Stamped other position) is = loses world mover chunk found place number ask inside (λ free. absurd cc)
+claims_stood world mover chunk found place number ask inside lost (Writing other position draft) is = loses world mover chunk found place number ask inside (λ free. absurd cc)
+claims_stood world mover chunk found place number ask inside lost (Ready other position content) is = loses world mover chunk found place number ask inside (λ free. absurd cc)
+claims_stood world mover chunk found place number ask inside lost (Reading other position content) is = loses world mover chunk found place number ask inside (λ free. absurd cc)
 
-stood_or_made : (world : World) (move : Move) (place number : ℕ) (ask : Ask) → MayMove world move → ask.won ≡ false
+stood_or_made : (setup : Setup) (world : World) (move : Move) (place number : ℕ) (ask : Ask) → MayMove setup world move → ask.won ≡ false
     → At (writer (behind world move) place).asked number ask → StoodOrMade world move place number ask
-stood_or_made world (Claims mover chunk found) place number ask may lost at =
+stood_or_made setup world (Claims mover chunk found) place number ask may lost at =
     claims_stood world mover chunk found place number ask may.0 lost (status world chunk) refl at
-stood_or_made world (Stamps mover chunk) place number ask may lost at = keeps_asked world (Stamps mover chunk) mover place number _ ask may.0 refl at
-stood_or_made world (Begins mover chunk words) place number ask may lost at = keeps_asked world (Begins mover chunk words) mover place number _ ask may.0 refl at
-stood_or_made world (SetsHeader mover chunk id head) place number ask may lost at = keeps_asked world (SetsHeader mover chunk id head) mover place number _ ask may.0 refl at
-stood_or_made world (Publishes mover chunk id index word) place number ask may lost at = keeps_asked world (Publishes mover chunk id index word) mover place number _ ask may.0 refl at
-stood_or_made world (Completes mover chunk id content) place number ask may lost at = keeps_asked world (Completes mover chunk id content) mover place number _ ask may.0 refl at
-stood_or_made world (Calls mover call) place number ask may lost at = keeps_asked world (Calls mover call) mover place number _ ask may refl at
-stood_or_made world (Looks chunk word header found) place number ask may lost at = inl at
-stood_or_made world (Takes mover chunk word header) place number ask may lost at = inl at
-stood_or_made world (Learns mover chunk content) place number ask may lost at = inl at
-stood_or_made world (Releases chunk) place number ask may lost at = inl at
-stood_or_made world (Notes event) place number ask may lost at = inl at
-stood_or_made world (Commits committed) place number ask may lost at = inl at
-stood_or_made world (HearsOf mover requests) place number ask may lost at = keeps_asked world (HearsOf mover requests) mover place number _ ask may.0 refl at
-stood_or_made world (Answers mover flush chunks) place number ask may lost at = keeps_asked world (Answers mover flush chunks) mover place number _ ask may.0 refl at
-stood_or_made world Requests place number ask may lost at = inl at
-stood_or_made world (ReadsAnswer mover flush chunks) place number ask may lost at = inl at
+stood_or_made setup world (Stamps mover chunk) place number ask may lost at = keeps_asked world (Stamps mover chunk) mover place number _ ask may.0 refl at
+stood_or_made setup world (Begins mover chunk words) place number ask may lost at = keeps_asked world (Begins mover chunk words) mover place number _ ask may.0 refl at
+stood_or_made setup world (SetsHeader mover chunk position head) place number ask may lost at = keeps_asked world (SetsHeader mover chunk position head) mover place number _ ask may.0 refl at
+stood_or_made setup world (Publishes mover chunk position index word) place number ask may lost at = keeps_asked world (Publishes mover chunk position index word) mover place number _ ask may.0 refl at
+stood_or_made setup world (Completes mover chunk position content) place number ask may lost at = keeps_asked world (Completes mover chunk position content) mover place number _ ask may.0 refl at
+stood_or_made setup world (Calls mover call) place number ask may lost at = keeps_asked world (Calls mover call) mover place number _ ask may refl at
+stood_or_made setup world (Looks chunk word header found) place number ask may lost at = inl at
+stood_or_made setup world (Takes mover chunk word header) place number ask may lost at = inl at
+stood_or_made setup world (Learns mover chunk content) place number ask may lost at = inl at
+stood_or_made setup world (Releases chunk) place number ask may lost at = inl at
+stood_or_made setup world (Notes event) place number ask may lost at = inl at
+stood_or_made setup world (Commits committed) place number ask may lost at = inl at
+stood_or_made setup world (HearsOf mover requests) place number ask may lost at = keeps_asked world (HearsOf mover requests) mover place number _ ask may.0 refl at
+stood_or_made setup world (Answers mover flush chunks) place number ask may lost at = keeps_asked world (Answers mover flush chunks) mover place number _ ask may.0 refl at
+stood_or_made setup world Requests place number ask may lost at = inl at
+stood_or_made setup world (ReadsAnswer mover flush chunks) place number ask may lost at = inl at
 
 -- a move is put before the moves that lead to the claim
-found_later : (old new : World) (move : Move) (moves : List Move) (place number : ℕ) (ask : Ask) → MayMove old move
-    → FindsHad moves (behind old move) new place number ask → FindsHad (move ∷ moves) old new place number ask
-found_later old new move moves place number ask may found = record {
+found_later : (setup : Setup) (old new : World) (move : Move) (moves : List Move) (place number : ℕ) (ask : Ask) → MayMove setup old move
+    → FindsHad setup moves (behind old move) new place number ask → FindsHad setup (move ∷ moves) old new place number ask
+found_later setup old new move moves place number ask may found = record {
   mid = found.mid;
   before = move ∷ found.before;
   after = found.after;
@@ -105,10 +106,10 @@ found_later old new move moves place number ask may found = record {
 }
 
 -- a claim in vain at the end of a schedule was there before it, or was made where somebody had the chunk
-finds_had : (old new : World) (moves : List Move) (place number : ℕ) (ask : Ask) → IsSchedule old moves new → ask.won ≡ false
-    → At (writer new place).asked number ask → At (writer old place).asked number ask ⊎ FindsHad moves old new place number ask
-finds_had old new [] place number ask same lost at = inl (subst (λ (world : World). At (writer world place).asked number ask) same at)
-finds_had old new (move ∷ moves) place number ask schedule lost at =
+finds_had : (setup : Setup) (old new : World) (moves : List Move) (place number : ℕ) (ask : Ask) → IsSchedule setup old moves new → ask.won ≡ false
+    → At (writer new place).asked number ask → At (writer old place).asked number ask ⊎ FindsHad setup moves old new place number ask
+finds_had setup old new [] place number ask same lost at = inl (subst (λ (world : World). At (writer world place).asked number ask) same at)
+finds_had setup old new (move ∷ moves) place number ask schedule lost at =
     ⊎_elim
     (λ stood. ⊎_elim (λ before. inl before)
     (λ made. inr (record {
@@ -117,17 +118,17 @@ finds_had old new (move ∷ moves) place number ask schedule lost at =
       after = moves;
       moves_are = ap (λ (one : Move). one ∷ moves) made.is;
       first = refl;
-      then = subst (λ (one : Move). IsSchedule old (one ∷ moves) new) made.is schedule;
+      then = subst (λ (one : Move). IsSchedule setup old (one ∷ moves) new) made.is schedule;
       count = made.count;
       had = made.had;
     }))
-    (stood_or_made old move place number ask schedule.0 lost stood))
-    (λ found. inr (found_later old new move moves place number ask schedule.0 found))
-    (finds_had (behind old move) new moves place number ask schedule.1 lost at)
+    (stood_or_made setup old move place number ask schedule.0 lost stood))
+    (λ found. inr (found_later setup old new move moves place number ask schedule.0 found))
+    (finds_had setup (behind old move) new moves place number ask schedule.1 lost at)
 
 pub claims_in_vain_find_had : ClaimsInVainFindHad
 claims_in_vain_find_had setup moves world schedule place number ask at lost =
     ⊎_elim
     (λ stood. absurd (some-ne-none ask (sym (subst (λ (view : WriterView). At view.asked number ask) (all_same newcomer setup.writers place) stood))))
     (λ found. found)
-    (finds_had (first_world setup) world moves place number ask schedule lost at)
+    (finds_had setup (first_world setup) world moves place number ask schedule lost at)

@@ -10,32 +10,32 @@ use Rattle.chunk_schedules.specs.Schedules.{IsSchedule}
 
 -- No moves lead nowhere else; schedules go on one behind another; and each front of a schedule is one, which leads to a world on the way.
 pub record SchedulesJoin : Type 0 where
-  pub none : (world : World) → IsSchedule world [] world
-  pub both : (old mid new : World) (moves more : List Move) → IsSchedule old moves mid → IsSchedule mid more new
-      → IsSchedule old (moves ++ more) new
-  pub front : (old new : World) (moves more : List Move) → IsSchedule old (moves ++ more) new
-      → (mid : World) × IsSchedule old moves mid × IsSchedule mid more new
+  pub none : (setup : Setup) (world : World) → IsSchedule setup world [] world
+  pub both : (setup : Setup) (old mid new : World) (moves more : List Move) → IsSchedule setup old moves mid → IsSchedule setup mid more new
+      → IsSchedule setup old (moves ++ more) new
+  pub front : (setup : Setup) (old new : World) (moves more : List Move) → IsSchedule setup old (moves ++ more) new
+      → (mid : World) × IsSchedule setup old moves mid × IsSchedule setup mid more new
 
 -- Whatever a schedule leads to from an owned world is owned, with as many writers and chunks. So is each world on the way, since fronts are
 -- schedules.
 abbrev pub SchedulesKeepOwnership : Type 0
-SchedulesKeepOwnership = (old new : World) (moves : List Move) → IsOwned old → IsSchedule old moves new
+SchedulesKeepOwnership = (setup : Setup) (old new : World) (moves : List Move) → IsOwned old → IsSchedule setup old moves new
     → IsOwned new × (length new.writers ≡ length old.writers) × (length new.chunks ≡ length old.chunks)
 
 -- The given moves have the writer's claim with this number among them: it is the one between those before and those after, and in the world
 -- to which those before lead somebody has the chunk.
-pub record FindsHad (moves : List Move) (old new : World) (place number : ℕ) (ask : Ask) : Type 0 where
+pub record FindsHad (setup : Setup) (moves : List Move) (old new : World) (place number : ℕ) (ask : Ask) : Type 0 where
   pub mid : World
   pub before : List Move
   pub after : List Move
   pub moves_are : moves ≡ before ++ Claims place ask.chunk ask.found ∷ after
-  pub first : IsSchedule old before mid
-  pub then : IsSchedule mid (Claims place ask.chunk ask.found ∷ after) new
+  pub first : IsSchedule setup old before mid
+  pub then : IsSchedule setup mid (Claims place ask.chunk ask.found ∷ after) new
   pub count : length (writer mid place).asked ≡ number
   pub had : status mid ask.chunk ≡ Unclaimed → ⊥
 
 -- Each claim in vain of a schedule is one of its moves, made where somebody had the chunk.
 abbrev pub ClaimsInVainFindHad : Type 0
-ClaimsInVainFindHad = (setup : Setup) (moves : List Move) (world : World) → IsSchedule (first_world setup) moves world
+ClaimsInVainFindHad = (setup : Setup) (moves : List Move) (world : World) → IsSchedule setup (first_world setup) moves world
     → (place number : ℕ) (ask : Ask) → At (writer world place).asked number ask → ask.won ≡ false
-    → FindsHad moves (first_world setup) world place number ask
+    → FindsHad setup moves (first_world setup) world place number ask

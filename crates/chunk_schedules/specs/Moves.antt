@@ -1,13 +1,12 @@
 -- The atomic steps that writers and the service make on a table of chunks, as moves of its world. Each is made by one of them and changes
 -- that seat's view and one chunk at most. A step that changes no view, as when a page word or a payload word is loaded, is no move.
 use Rattle.std.specs.Prelude.{◌≡◌, ℕ, ◌+◌, ◌*◌, ◌^◌, ◌<◌, ◌≤◌, true, false, Option, Some, None, List, length, take, slice_index_or}
-use Rattle.trace_base.specs.declared.limits.TheConstants.{MAX_CHUNKS_PER_PAGE}
 use Rattle.page_geometry.specs.declared.chunk_state.ChunkState.{ChunkState}
 use Rattle.page_geometry.specs.declared.chunk_state.ChunkState.TheVariants.{BeingWritten, Complete}
 use Rattle.page_geometry.specs.Header.{packed}
 use Rattle.page_geometry.specs.PageBits.{HasState}
 use Rattle.trace_model.specs.Calls.{Call}
-use Rattle.chunk_plain.specs.Setup.{sequence_of}
+use Rattle.chunk_plain.specs.Setup.{sequence_of, Setup, spot, id_at}
 use Rattle.chunk_plain.specs.Payload.{byte_of, byte_at, byte_in, sealed_to}
 use Rattle.chunk_plain.specs.Views.{At, Head, no_head, Draft, fresh, Content, Completed, WriterView, asked_in, Found, Noted, Commit, Committed, taken_of}
 use Rattle.chunk_plain.specs.World.{World, Status, Unclaimed, Claimed, Stamped, Writing, Ready, Reading, status, writer}
@@ -17,23 +16,24 @@ use Rattle.chunk_plain.specs.Owned.{times, held_count}
 use Rattle.chunk_plain.specs.Drafts.{MayFollow, IsDraft, IsFound, IsThere, IsHolding, head_of, draft_at, ends_by}
 use Rattle.chunk_plain.specs.Histories.{completed_images}
 use Rattle.chunk_plain.specs.Plain.{read_as}
+use Rattle.chunk_plain.specs.declared.tokens.TheConstants.{POSITION_LIMIT}
 
--- A writer is named by its place, from 0. The page words and header words that a step found are kept in views. A header word is what the
--- world says of the chunk, where a writer stored it; a page word is one of an earlier time, and which of its bits are the chunk's is said
--- by a set-up, which a world doesn't have.
+-- A writer is named by its place, from 0, and its chunks by their positions. The page words and header words that a step found are kept in
+-- views. A header word is what the world says of the chunk, where a writer stored it, with the id that the set-up gives the chunk's
+-- position; a page word is one of an earlier time, and which of its bits are the chunk's is said by the set-up.
 pub data Move : Type 0 where
   -- a writer sets the claim bit of a chunk, and found this page word
   Claims : (place chunk found : ℕ) → Move
-  -- it stores the header of a chunk that it claimed, with its next id
+  -- it stores the header of a chunk that it claimed, with the id of its next position
   Stamps : (place chunk : ℕ) → Move
   -- it begins this chunk, in which these payload words stand
   Begins : (place chunk : ℕ) → (words : List ℕ) → Move
   -- it stores another header in a chunk that it holds
-  SetsHeader : (place chunk id : ℕ) → Head → Move
+  SetsHeader : (place chunk position : ℕ) → Head → Move
   -- or a payload word, at this index
-  Publishes : (place chunk id index word : ℕ) → Move
+  Publishes : (place chunk position index word : ℕ) → Move
   -- it completes the chunk, which has this content
-  Completes : (place chunk id : ℕ) → Content → Move
+  Completes : (place chunk position : ℕ) → Content → Move
   -- it notes a call
   Calls : (place : ℕ) → Call → Move
   -- the service looks at a chunk, and found this of it
@@ -71,11 +71,13 @@ behind world (Stamps place chunk) =
     moved world place (stamps (writer world place) chunk) chunk (Stamped place (length (writer world place).begun))
 behind world (Begins place chunk words) =
     moved world place (begins (writer world place) chunk words) chunk (Writing place (length (writer world place).begun) (fresh words))
-behind world (SetsHeader place chunk id head) =
-    drafted world place chunk id (with_head (draft_at (writer world place) id) head (ends_by (writer world place) id head.count))
-behind world (Publishes place chunk id index word) = drafted world place chunk id (with_word (draft_at (writer world place) id) index word)
-behind world (Completes place chunk id content) =
-    moved world place (completes (writer world place) chunk id content) chunk (Ready place id content)
+behind world (SetsHeader place chunk position head) =
+    drafted world place chunk position
+    (with_head (draft_at (writer world place) position) head (ends_by (writer world place) position head.count))
+behind world (Publishes place chunk position index word) =
+    drafted world place chunk position (with_word (draft_at (writer world place) position) index word)
+behind world (Completes place chunk position content) =
+    moved world place (completes (writer world place) chunk position content) chunk (Ready place position content)
 behind world (Calls place call) = with_writer_view world place (notes_call (writer world place) call)
 behind world (Looks chunk word header found) = serviced world (looks_at world.service chunk word header found)
 behind world (Takes place chunk word header) =
@@ -109,9 +111,9 @@ pub record MayPublish (draft : Draft) (index word : ℕ) : Type 0 where
   pub inside : index < length draft.words
   pub kept : (m : ℕ) → m < 8 → 8 * index + m < sealed_to draft.ends → byte_of word m ≡ byte_of (slice_index_or draft.words index 0) m
 
--- the content is that of a held chunk: its writer's, with its id, its header and the bytes of its finished fragments
-pub record MayComplete (place id : ℕ) (draft : Draft) (content : Content) : Type 0 where
-  pub id_is : content.image.chunk_id ≡ id
+-- the content is that of a held chunk: its writer's, at its position, with its header and the bytes of its finished fragments
+pub record MayComplete (place position : ℕ) (draft : Draft) (content : Content) : Type 0 where
+  pub position_is : content.image.chunk_id ≡ position
   pub sequence_is : content.image.sequence ≡ sequence_of place
   pub head_is : head_of content ≡ draft.head
   pub inside : sealed_to draft.ends ≤ length content.image.payload
@@ -121,33 +123,34 @@ pub record MayComplete (place id : ℕ) (draft : Draft) (content : Content) : Ty
 abbrev pub FindsWhatIsThere : World → (chunk : ℕ) → Option Found → Type 0
 FindsWhatIsThere world chunk found = (one : Found) → found ≡ Some one → IsFound one × IsThere (writer world one.place) chunk one
 
--- the header word that says this of a chunk: whose it is, under which id, and with which head
-abbrev pub header_of : (place id : ℕ) → Head → ℕ
-header_of place id head = packed (record { chunk_id = id; writer_id = place + 1; count = head.count; flags = head.flags })
+-- the header word that says this of a chunk: whose it is, at which position, and with which head
+abbrev pub header_of : Setup → (place position : ℕ) → Head → ℕ
+header_of setup place position head =
+    packed (record { chunk_id = id_at setup place position; writer_id = place + 1; count = head.count; flags = head.flags })
 
 -- a chunk's header word is the one that its use says; of a chunk for which none was stored it is any
-abbrev pub SaysUse : (header : ℕ) → Status → Type 0
-SaysUse header (Stamped place id) = header ≡ header_of place id no_head
-SaysUse header (Writing place id draft) = header ≡ header_of place id draft.head
-SaysUse header (Ready place id content) = header ≡ header_of place id (head_of content)
-SaysUse header (Reading place id content) = header ≡ header_of place id (head_of content)
-SaysUse header _ = Unit {0}
+abbrev pub SaysUse : Setup → (header : ℕ) → Status → Type 0
+SaysUse setup header (Stamped place position) = header ≡ header_of setup place position no_head
+SaysUse setup header (Writing place position draft) = header ≡ header_of setup place position draft.head
+SaysUse setup header (Ready place position content) = header ≡ header_of setup place position (head_of content)
+SaysUse setup header (Reading place position content) = header ≡ header_of setup place position (head_of content)
+SaysUse setup header _ = Unit {0}
 
--- a chunk of the page has this state in the page word, at one of the places that a page has for chunks
-abbrev pub SaysState : (word : ℕ) → ChunkState → Type 0
-SaysState word state = (place : ℕ) × (place < MAX_CHUNKS_PER_PAGE) × HasState word place state
+-- the page word has the chunk in this state
+abbrev pub SaysState : Setup → (chunk word : ℕ) → ChunkState → Type 0
+SaysState setup chunk word state = HasState word (spot setup chunk).place state
 
--- what was found of a chunk is what its header word says; the page word has a chunk that is being written; and the id isn't taken
-pub record FindsWritten (world : World) (word header : ℕ) (one : Found) : Type 0 where
-  pub header_is : header ≡ header_of one.place one.id one.head
-  pub written : SaysState word BeingWritten
-  pub untaken : (taken_of world.service one.place).count ≤ one.id
+-- what was found of a chunk is what its header word says; the page word has it as being written; and its position isn't taken
+pub record FindsWritten (setup : Setup) (world : World) (chunk word header : ℕ) (one : Found) : Type 0 where
+  pub header_is : header ≡ header_of setup one.place one.position one.head
+  pub written : SaysState setup chunk word BeingWritten
+  pub untaken : (taken_of world.service one.place).count ≤ one.position
 
 -- a look has the chunk's header word, and what it found of the chunk, if anything, is there and is what that says
-pub record MayLook (world : World) (chunk word header : ℕ) (found : Option Found) : Type 0 where
+pub record MayLook (setup : Setup) (world : World) (chunk word header : ℕ) (found : Option Found) : Type 0 where
   pub there : FindsWhatIsThere world chunk found
-  pub used : SaysUse header (status world chunk)
-  pub says : (one : Found) → found ≡ Some one → FindsWritten world word header one
+  pub used : SaysUse setup header (status world chunk)
+  pub says : (one : Found) → found ≡ Some one → FindsWritten setup world chunk word header one
 
 -- the chunk is complete, and the next one of this writer to be taken
 abbrev pub IsNext : World → (place chunk : ℕ) → Type 0
@@ -160,7 +163,7 @@ pub record MayLearn (world : World) (place chunk : ℕ) (content : Content) : Ty
 
 -- the service is reading the chunk
 abbrev pub IsRead : World → (chunk : ℕ) → Type 0
-IsRead world chunk = (place : ℕ) × (id : ℕ) × (content : Content) × (status world chunk ≡ Reading place id content)
+IsRead world chunk = (place : ℕ) × (position : ℕ) × (content : Content) × (status world chunk ≡ Reading place position content)
 
 -- a commit is noted with its image, and else an event alone
 abbrev pub IsPlainNote : Noted → Type 0
@@ -187,31 +190,33 @@ pub record IsLastOf (view : WriterView) (flush chunks : ℕ) : Type 0 where
   pub chunks_is : chunks ≡ (last_reply view.letters.answers).chunks
 
 -- Whether a move is possible in a world: the table's words allow it, and the seat that makes it has what it is about.
-abbrev pub MayMove : World → Move → Type 0
-MayMove world (Claims place chunk found) = IsWriter world place × IsChunk world chunk
-MayMove world (Stamps place chunk) =
+abbrev pub MayMove : Setup → World → Move → Type 0
+MayMove setup world (Claims place chunk found) = IsWriter world place × IsChunk world chunk
+MayMove setup world (Stamps place chunk) =
     IsWriter world place × IsChunk world chunk × (0 < times chunk (writer world place).claimed) × ((writer world place).stamped ≡ None)
-MayMove world (Begins place chunk words) =
+    × (length (writer world place).begun < POSITION_LIMIT)
+MayMove setup world (Begins place chunk words) =
     IsWriter world place × IsChunk world chunk
-    × ((writer world place).stamped ≡ Some (record { chunk = chunk; id = length (writer world place).begun }))
-MayMove world (SetsHeader place chunk id head) =
-    IsWriter world place × IsChunk world chunk × IsHolding (writer world place) chunk id
-    × MaySetHeader (draft_at (writer world place) id) head (ends_by (writer world place) id head.count)
-MayMove world (Publishes place chunk id index word) =
-    IsWriter world place × IsChunk world chunk × IsHolding (writer world place) chunk id
-    × MayPublish (draft_at (writer world place) id) index word
-MayMove world (Completes place chunk id content) =
-    IsWriter world place × IsChunk world chunk × IsHolding (writer world place) chunk id
-    × MayComplete place id (draft_at (writer world place) id) content
-MayMove world (Calls place call) = IsWriter world place
-MayMove world (Looks chunk word header found) = MayLook world chunk word header found
-MayMove world (Takes place chunk word header) =
-    IsWriter world place × IsChunk world chunk × IsNext world place chunk × SaysUse header (status world chunk) × SaysState word Complete
-MayMove world (Learns place chunk content) = IsWriter world place × MayLearn world place chunk content
-MayMove world (Releases chunk) = IsChunk world chunk × IsRead world chunk
-MayMove world (Notes event) = IsPlainNote event
-MayMove world (Commits committed) = Unit {0}
-MayMove world (HearsOf place number) = IsWriter world place × MayHear world place number
-MayMove world (Answers place flush chunks) = IsWriter world place × MayAnswer (writer world place) flush chunks
-MayMove world Requests = Unit {0}
-MayMove world (ReadsAnswer place flush chunks) = IsWriter world place × IsLastOf (writer world place) flush chunks
+    × ((writer world place).stamped ≡ Some (record { chunk = chunk; position = length (writer world place).begun }))
+MayMove setup world (SetsHeader place chunk position head) =
+    IsWriter world place × IsChunk world chunk × IsHolding (writer world place) chunk position
+    × MaySetHeader (draft_at (writer world place) position) head (ends_by (writer world place) position head.count)
+MayMove setup world (Publishes place chunk position index word) =
+    IsWriter world place × IsChunk world chunk × IsHolding (writer world place) chunk position
+    × MayPublish (draft_at (writer world place) position) index word
+MayMove setup world (Completes place chunk position content) =
+    IsWriter world place × IsChunk world chunk × IsHolding (writer world place) chunk position
+    × MayComplete place position (draft_at (writer world place) position) content
+MayMove setup world (Calls place call) = IsWriter world place
+MayMove setup world (Looks chunk word header found) = MayLook setup world chunk word header found
+MayMove setup world (Takes place chunk word header) =
+    IsWriter world place × IsChunk world chunk × IsNext world place chunk × SaysUse setup header (status world chunk)
+    × SaysState setup chunk word Complete
+MayMove setup world (Learns place chunk content) = IsWriter world place × MayLearn world place chunk content
+MayMove setup world (Releases chunk) = IsChunk world chunk × IsRead world chunk
+MayMove setup world (Notes event) = IsPlainNote event
+MayMove setup world (Commits committed) = Unit {0}
+MayMove setup world (HearsOf place number) = IsWriter world place × MayHear world place number
+MayMove setup world (Answers place flush chunks) = IsWriter world place × MayAnswer (writer world place) flush chunks
+MayMove setup world Requests = Unit {0}
+MayMove setup world (ReadsAnswer place flush chunks) = IsWriter world place × IsLastOf (writer world place) flush chunks

@@ -6,7 +6,7 @@ use Rattle.std.proofs.lemmas.Bool.Decides.{nat_tests}
 use Rattle.std.proofs.Math.Seq.{get_or-append_seam}
 use native.Mathlib.Decide.{ℕ_discrete}
 use mathlib.Core.Logic.{dite}
-use Rattle.chunk_plain.specs.Setup.{Setup, spot}
+use Rattle.chunk_plain.specs.Setup.{Setup, spot, id_at}
 use Rattle.chunk_plain.specs.Payload.{sealed_to}
 use Rattle.chunk_plain.specs.Views.{Ask, Held, Draft, fresh, no_draft, WriterView, newcomer}
 use Rattle.chunk_plain.specs.Drafts.{draft_in, draft_at}
@@ -94,19 +94,26 @@ pub begun_same : (setup : Setup) (first count chunk : ℕ) (old mid won : Writer
 begun_same setup first count chunk old mid won vain wins =
     ap (λ (v : WriterView). length v.begun) wins.view ∙ ap (λ (v : WriterView). length v.begun) vain.view
 
+-- the id of the next position, once the set-up, the place and the chunks begun are as they were
+pub same_id : (setup now : Setup) (place there count many id : ℕ) → now ≡ setup → there ≡ place → many ≡ count → id ≡ id_at setup place count → id ≡ id_at now there many
+same_id setup now place there count many id setup_is place_is count_is is =
+    is
+    ∙ (ap (λ (s : Setup). id_at s place count) (sym setup_is)
+    ∙ (ap (λ (p : ℕ). id_at now p count) (sym place_is) ∙ ap (λ (n : ℕ). id_at now there n) (sym count_is)))
+
 -- ---- what is told
 
 pub noted_again : (world : World) (place other : ℕ) (u v : WriterView) → other ≡ place → with_writer_view (with_writer_view world place u) other v ≡ with_writer_view world place v
 noted_again world place other u v is = ap (λ p. with_writer_view (with_writer_view world place u) p v) is ∙ ap (λ l. record world { writers = l }) (set-set world.writers place u v)
 
 -- the chunk was claimed and then begun, whatever the view was before
-pub told_begun : (told : Option World) (world : World) (place other last chunk c id : ℕ) (u v w : WriterView) (draft : Draft) → other ≡ place → last ≡ place → c ≡ chunk
-    → told ≡ Some (moved (moved (with_writer_view world place u) other v chunk (Claimed other)) last w c (Writing last id draft))
-    → told ≡ Some (moved world place w chunk (Writing place id draft))
-told_begun told world place other last chunk c id u v w draft other_is last_is chunk_is is =
-    let to = Writing place id draft in
-    let first = subst (λ p. told ≡ Some (moved (moved (with_writer_view world place u) p v chunk (Claimed p)) last w c (Writing last id draft))) other_is is in
-    let second = subst (λ p. told ≡ Some (moved (moved (with_writer_view world place u) place v chunk (Claimed place)) p w c (Writing p id draft))) last_is first in
+pub told_begun : (told : Option World) (world : World) (place other last chunk c position : ℕ) (u v w : WriterView) (draft : Draft) → other ≡ place → last ≡ place → c ≡ chunk
+    → told ≡ Some (moved (moved (with_writer_view world place u) other v chunk (Claimed other)) last w c (Writing last position draft))
+    → told ≡ Some (moved world place w chunk (Writing place position draft))
+told_begun told world place other last chunk c position u v w draft other_is last_is chunk_is is =
+    let to = Writing place position draft in
+    let first = subst (λ p. told ≡ Some (moved (moved (with_writer_view world place u) p v chunk (Claimed p)) last w c (Writing last position draft))) other_is is in
+    let second = subst (λ p. told ≡ Some (moved (moved (with_writer_view world place u) place v chunk (Claimed place)) p w c (Writing p position draft))) last_is first in
     let third = subst (λ d. told ≡ Some (moved (moved (with_writer_view world place u) place v chunk (Claimed place)) place w d to)) chunk_is second in
     let chunks = set-set world.chunks chunk (Claimed place) to in
     let writers = set-set (set world.writers place u) place v w ∙ set-set world.writers place u w in
@@ -129,9 +136,9 @@ pub held_same : (setup : Setup) (first count chunk : ℕ) (old mid won : WriterV
 held_same setup first count chunk old mid won vain wins = ap (λ (v : WriterView). v.begun) wins.view ∙ ap (λ (v : WriterView). v.begun) vain.view
 
 -- nothing is finished in a chunk that was just begun
-pub turn_sealed : (setup : Setup) (first most chunk : ℕ) (old new : WriterView) (id : ℕ) → ClaimsInTurn setup first most chunk old new → id ≡ length old.begun → sealed_to (draft_at new id).ends ≡ 0
-turn_sealed setup first most chunk old new id turn is =
-    let draft_is : draft_at new id ≡ fresh turn.payload = ap (λ v. draft_at v id) turn.view
+pub turn_sealed : (setup : Setup) (first most chunk : ℕ) (old new : WriterView) (position : ℕ) → ClaimsInTurn setup first most chunk old new → position ≡ length old.begun → sealed_to (draft_at new position).ends ≡ 0
+turn_sealed setup first most chunk old new position turn is =
+    let draft_is : draft_at new position ≡ fresh turn.payload = ap (λ v. draft_at v position) turn.view
     ∙ (ap (λ i. draft_in (get_or (old.begun ++ Held chunk (fresh turn.payload) ∷ []) i (Held 0 no_draft))) is
     ∙ ap draft_in (get_or-append_seam old.begun (Held chunk (fresh turn.payload)) [] (Held 0 no_draft))) in
     ap (λ (d : Draft). sealed_to d.ends) draft_is

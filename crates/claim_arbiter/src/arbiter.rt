@@ -1,6 +1,6 @@
 //! Claims in rising order.
 ghost use Rattle.std.specs.Prelude.{◌≡◌, ℕ, ◌+◌, ◌-◌, ◌<◌, ◌≤◌, Some, None, length, IfSome, IfNone};
-ghost use Rattle.chunk_plain.specs.declared.tokens.TheConstants.{MAX_HELD, ID_LIMIT};
+ghost use Rattle.chunk_plain.specs.declared.tokens.TheConstants.{MAX_HELD, POSITION_LIMIT};
 ghost use Rattle.chunk_plain.specs.Setup.{range_of, producer_of, id_at};
 ghost use Rattle.chunk_plain.specs.World.{World, Unclaimed, Writing, status};
 ghost use Rattle.chunk_plain.specs.Steps.{moved, with_writer_view};
@@ -30,7 +30,8 @@ impl Arbiter {
     }
 }
 
-/// Claims the first chunk that is free when its turn comes, and begins it.
+/// Claims the first chunk that is free when its turn comes, and begins it with this id, that of the
+/// writer's next position.
 pub fn claim_over<W: Words, L: Ledger>(
     arbiter: &Arbiter,
     table: &mut W,
@@ -43,13 +44,15 @@ pub fn claim_over<W: Words, L: Ledger>(
         ≡ range_in arbiter.now }
     requires few { held_count (W.means.view table.old seat.old).begun < MAX_HELD }
     requires id { id ≡ id_at (W.means.setup table.old) (W.means.place seat.old) (length (W.means.view table.old seat.old).begun) }
-    requires id_fits { id < ID_LIMIT }
+    requires few_begun { length (W.means.view table.old seat.old).begun < POSITION_LIMIT }
     ensures lost { IfNone result (AsksInVain (W.means.setup table.old) arbiter.now.first arbiter.now.chunks
         (W.means.view table.old seat.old) (W.means.view table.new seat.new)) }
     ensures won { IfSome result (λ held. ClaimsInTurn (W.means.setup table.old) arbiter.now.first arbiter.now.chunks held.chunk
         (W.means.view table.old seat.old) (W.means.view table.new seat.new)) }
-    ensures begun { IfSome result (λ held. IsBegun (W.means.setup table.old) held.chunk id held) }
-    ensures holding { IfSome result (λ held. IsHolding (W.means.view table.new seat.new) held.chunk id) }
+    ensures begun { IfSome result (λ held. IsBegun (W.means.setup table.old) held.chunk
+        (length (W.means.view table.old seat.old).begun) held) }
+    ensures holding { IfSome result (λ held. IsHolding (W.means.view table.new seat.new) held.chunk
+        (length (W.means.view table.old seat.old).begun)) }
     ensures step { IsWriterStep W.means table.old seat.old table.new seat.new }
     ensures steps_lost { IfNone result (steps.new ≡ steps.old + arbiter.now.chunks) }
     ensures steps_won { IfSome result (λ held. steps.new ≡ steps.old + (held.chunk - arbiter.now.first) + 2) }
@@ -60,7 +63,8 @@ pub fn claim_over<W: Words, L: Ledger>(
     ensures told_won { IfSome result (λ held. (world : World) → W.means.told table.old ≡ Some world
         → NoneFree world arbiter.now.first held.chunk × ∥ status world held.chunk ≡ Unclaimed ∥₁
         × (W.means.told table.new ≡ Some (moved world (W.means.place seat.old) (W.means.view table.new seat.new) held.chunk
-        (Writing (W.means.place seat.old) id (draft_at (W.means.view table.new seat.new) id))))) }
+        (Writing (W.means.place seat.old) (length (W.means.view table.old seat.old).begun)
+        (draft_at (W.means.view table.new seat.new) (length (W.means.view table.old seat.old).begun)))))) }
 {
     for chunk in arbiter.first..arbiter.first + arbiter.chunks {
         steps.tick();

@@ -1,6 +1,6 @@
 //! Five writers of one producer ask in turn for its four chunks, which lie in two pages.
 ghost use Rattle.std.specs.Prelude.{◌≡◌, ℕ, ◌+◌, ◌-◌, ◌<◌, length};
-ghost use Rattle.chunk_plain.specs.declared.tokens.TheConstants.{MAX_HELD, ID_LIMIT};
+ghost use Rattle.chunk_plain.specs.declared.tokens.TheConstants.{MAX_HELD, POSITION_LIMIT};
 ghost use Rattle.chunk_plain.specs.Setup.{range_of, producer_of, id_at};
 ghost use Rattle.chunk_plain.specs.Owned.{held_count};
 ghost use Rattle.chunk_plain.specs.Meaning.{IsWriterStep};
@@ -29,7 +29,7 @@ fn fill<W: Words, L: Ledger>(
         ≡ range_in arbiter.now }
     requires few { held_count (W.means.view table.old seat.old).begun < MAX_HELD }
     requires id { id ≡ id_at (W.means.setup table.old) (W.means.place seat.old) (length (W.means.view table.old seat.old).begun) }
-    requires id_fits { id < ID_LIMIT }
+    requires few_begun { length (W.means.view table.old seat.old).begun < POSITION_LIMIT }
     ensures step { IsWriterStep W.means table.old seat.old table.new seat.new }
 {
     let mut held = claim_over(arbiter, table, seat, id, steps)?;
@@ -51,6 +51,7 @@ fn filled_by_five<L: Ledger>(alloc: Global, blank: Blank) -> Result<[Option<u32>
         producer: 1,
         buffer: 1,
         policy: WriterPolicy::Drops,
+        from: 0,
     };
     let (mut table, _seats, _service) = PlainTable::make(alloc, &producers, &[spec; 5])?;
     let (first, chunks) = table.chunks_of(1);

@@ -1,4 +1,4 @@
-use Rattle.std.proofs.Common.{◌≡◌, ◌+◌, ◌-◌, ◌<◌, ◌∙◌, true, false, Some, subst, sym, refl, ap, arith}
+use Rattle.std.proofs.Common.{◌≡◌, ℕ, ◌+◌, ◌-◌, ◌<◌, ◌∙◌, true, false, Some, length, subst, sym, refl, ap, arith}
 use Rattle.chunk_plain.specs.World.{Unclaimed, Claimed, Writing, status}
 use Rattle.chunk_plain.specs.Steps.{moved, with_writer_view}
 use Rattle.chunk_plain.specs.Owned.{held_count}
@@ -6,6 +6,7 @@ use Rattle.chunk_plain.specs.Drafts.{draft_at}
 use Rattle.chunk_plain.specs.Words.{HasClaimed, TriesClaim, BeginsChunk}
 use Rattle.chunk_plain.proofs.Holding.{claims_has, begins_holds}
 use Rattle.chunk_plain.proofs.SeatSteps.{stays, steps_follow}
+use Rattle.chunk_plain.specs.Setup.{Setup, spot}
 use Rattle.claim_arbiter.specs.Claiming.{AsksInVain, ClaimsInTurn, NoneFree}
 use Rattle.claim_arbiter.proofs.Turns as turns
 use Rattle.claim_arbiter.proofs.arbiter.claim_over.Goals as goal
@@ -39,6 +40,40 @@ begin-requires-clause-few g c =
     let same = turns.held_same (g.W.Words.means.setup c.args.table.now) c.args.arbiter.now.first (c.loop-chunk.chunk - c.args.arbiter.now.first) c.loop-chunk.chunk (g.W.Words.means.view c.args.table.now c.args.seat.now) mid won i.vain wins in
     subst (λ l. held_count l < 2) (sym same) c.requires.few
 
+-- the writer has begun no chunk by its claim, and its place and the set-up are as they were
+pub begin-requires-clause-id : goal.begin-requires-clause-id
+begin-requires-clause-id g c =
+    let i = c.loop-chunk.invariant in let mid = g.W.Words.means.view c.loop-chunk.table c.loop-chunk.seat in
+    let won = g.W.Words.means.view c.claim_try.new.self c.claim_try.new.seat in
+    let wins = subst (λ s. TriesClaim s c.loop-chunk.chunk true mid won) i.step.setup_stays c.in-Some.ensures.won in
+    let same = turns.begun_same (g.W.Words.means.setup c.args.table.now) c.args.arbiter.now.first (c.loop-chunk.chunk - c.args.arbiter.now.first) c.loop-chunk.chunk (g.W.Words.means.view c.args.table.now c.args.seat.now) mid won i.vain wins in
+    turns.same_id (g.W.Words.means.setup c.args.table.now) (g.W.Words.means.setup c.claim_try.new.self) (g.W.Words.means.place c.args.seat.now) (g.W.Words.means.place c.claim_try.new.seat)
+    (length (g.W.Words.means.view c.args.table.now c.args.seat.now).begun) (length won.begun) c.args.id
+    (c.in-Some.ensures.step.setup_stays ∙ i.step.setup_stays) (c.in-Some.ensures.step.place_stays ∙ i.step.place_stays) same c.requires.id
+
+pub begin-requires-clause-few_begun : goal.begin-requires-clause-few_begun
+begin-requires-clause-few_begun g c =
+    let i = c.loop-chunk.invariant in let mid = g.W.Words.means.view c.loop-chunk.table c.loop-chunk.seat in
+    let won = g.W.Words.means.view c.claim_try.new.self c.claim_try.new.seat in
+    let wins = subst (λ s. TriesClaim s c.loop-chunk.chunk true mid won) i.step.setup_stays c.in-Some.ensures.won in
+    let same = turns.begun_same (g.W.Words.means.setup c.args.table.now) c.args.arbiter.now.first (c.loop-chunk.chunk - c.args.arbiter.now.first) c.loop-chunk.chunk (g.W.Words.means.view c.args.table.now c.args.seat.now) mid won i.vain wins in
+    subst (λ (n : ℕ). n < 4294967295) (sym same) c.requires.few_begun
+
+pub returns-in-Some-clause-begun : goal.returns-in-Some-clause-begun
+returns-in-Some-clause-begun g c =
+    let i = c.loop-chunk.invariant in let mid = g.W.Words.means.view c.loop-chunk.table c.loop-chunk.seat in
+    let won = g.W.Words.means.view c.claim_try.new.self c.claim_try.new.seat in
+    let wins = subst (λ s. TriesClaim s c.loop-chunk.chunk true mid won) i.step.setup_stays c.in-Some.ensures.won in
+    let same = turns.begun_same (g.W.Words.means.setup c.args.table.now) c.args.arbiter.now.first (c.loop-chunk.chunk - c.args.arbiter.now.first) c.loop-chunk.chunk (g.W.Words.means.view c.args.table.now c.args.seat.now) mid won i.vain wins in
+    let held = c.begin.ensures.held in
+    record {
+      chunk_is = refl;
+      position_is = held.position_is ∙ same;
+      whole = held.whole ∙ (ap (λ (s : Setup). (spot s c.in-Some.claimed.chunk).payload_size) (c.in-Some.ensures.step.setup_stays ∙ i.step.setup_stays)
+          ∙ ap (λ (d : ℕ). (spot (g.W.Words.means.setup c.args.table.now) d).payload_size) (sym held.chunk_is));
+      empty = held.empty;
+    }
+
 pub returns-in-Some-clause-won : goal.returns-in-Some-clause-won
 returns-in-Some-clause-won g c =
     let i = c.loop-chunk.invariant in let chunk = c.loop-chunk.chunk in let first = c.args.arbiter.now.first in let chunks = c.args.arbiter.now.chunks in
@@ -58,8 +93,9 @@ returns-in-Some-clause-holding g c =
     let won = g.W.Words.means.view c.claim_try.new.self c.claim_try.new.seat in
     let wins = subst (λ s. TriesClaim s c.loop-chunk.chunk true mid won) i.step.setup_stays c.in-Some.ensures.won in
     let same = turns.begun_same (g.W.Words.means.setup c.args.table.now) c.args.arbiter.now.first (c.loop-chunk.chunk - c.args.arbiter.now.first) c.loop-chunk.chunk (g.W.Words.means.view c.args.table.now c.args.seat.now) mid won i.vain wins in
-    begins_holds (g.W.Words.means.setup c.claim_try.new.self) won (g.W.Words.means.view c.begin.new.self c.begin.new.seat) c.in-Some.claimed.chunk c.args.id c.begin.result.chunk c.args.id
-    c.begin.ensures.view (c.requires.id ∙ sym same) c.begin.ensures.held.chunk_is (refl {a = c.args.id})
+    let n = length (g.W.Words.means.view c.args.table.now c.args.seat.now).begun in
+    begins_holds (g.W.Words.means.setup c.claim_try.new.self) won (g.W.Words.means.view c.begin.new.self c.begin.new.seat) c.in-Some.claimed.chunk n c.begin.result.chunk n
+    c.begin.ensures.view (sym same) c.begin.ensures.held.chunk_is (refl {a = n})
 
 pub returns-in-Some-clause-told_won : goal.returns-in-Some-clause-told_won
 returns-in-Some-clause-told_won g c = λ world told.
@@ -72,9 +108,13 @@ returns-in-Some-clause-told_won g c = λ world told.
     let begun = c.begin.ensures.told (moved (with_writer_view world place mid) other won chunk (Claimed other)) claimed.1 in
     let chunk_is = c.begin.ensures.held.chunk_is ∙ c.in-Some.ensures.chunk in
     let last_is = c.in-Some.ensures.step.place_stays ∙ i.step.place_stays in
-    let at = turns.told_begun (g.W.Words.means.told c.begin.new.self) world place other last chunk c.in-Some.claimed.chunk c.args.id mid won new (draft_at new c.args.id) i.step.place_stays last_is c.in-Some.ensures.chunk begun in
-    subst (λ d. NoneFree world first d × ∥ status world d ≡ Unclaimed ∥₁ × (g.W.Words.means.told c.begin.new.self ≡ Some (moved world place new d (Writing place c.args.id (draft_at new c.args.id))))) (sym chunk_is)
-    (before.0, claimed.0, at)
+    let m = length won.begun in let n = length (g.W.Words.means.view c.args.table.now c.args.seat.now).begun in
+    let at = turns.told_begun (g.W.Words.means.told c.begin.new.self) world place other last chunk c.in-Some.claimed.chunk m mid won new (draft_at new m) i.step.place_stays last_is c.in-Some.ensures.chunk begun in
+    let wins = subst (λ s. TriesClaim s chunk true mid won) i.step.setup_stays c.in-Some.ensures.won in
+    let same = turns.begun_same (g.W.Words.means.setup c.args.table.now) first (chunk - first) chunk (g.W.Words.means.view c.args.table.now c.args.seat.now) mid won i.vain wins in
+    let then = subst (λ (j : ℕ). g.W.Words.means.told c.begin.new.self ≡ Some (moved world place new chunk (Writing place j (draft_at new j)))) same at in
+    subst (λ d. NoneFree world first d × ∥ status world d ≡ Unclaimed ∥₁ × (g.W.Words.means.told c.begin.new.self ≡ Some (moved world place new d (Writing place n (draft_at new n))))) (sym chunk_is)
+    (before.0, claimed.0, then)
 
 pub loop-chunk-preserved : goal.loop-chunk-preserved
 loop-chunk-preserved g c =

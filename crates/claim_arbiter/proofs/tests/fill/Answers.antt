@@ -1,4 +1,4 @@
-use Rattle.std.proofs.Common.{◌≡◌, ℕ, ◌+◌, ◌<◌, ◌∙◌, length, subst, sym, ap, arith}
+use Rattle.std.proofs.Common.{◌≡◌, ℕ, ◌<◌, length, subst, sym, ap, arith}
 use Rattle.chunk_plain.specs.declared.tokens.Held.{Held as HeldToken}
 use Rattle.chunk_plain.specs.Payload.{byte_in, sealed_to}
 use Rattle.chunk_plain.specs.Views.{Draft, WriterView}
@@ -11,30 +11,30 @@ use Rattle.claim_arbiter.proofs.tests.fill.Goals as goal
 pub publish-requires-clause-kept : goal.publish-requires-clause-kept
 publish-requires-clause-kept g c = λ j below.
     let setup = g.W.Words.means.setup c.args.table.now in let arbiter = c.args.arbiter.now in
-    let none = turn_sealed setup arbiter.first arbiter.chunks c.in_ok-held.held.chunk (g.W.Words.means.view c.args.table.now c.args.seat.now) (g.W.Words.means.view c.claim_over.new.table c.claim_over.new.seat) c.in_ok-held.held.id
-    c.in_ok-held.ensures.won (c.in_ok-held.ensures.begun.id_is ∙ c.requires.id) in
+    let none = turn_sealed setup arbiter.first arbiter.chunks c.in_ok-held.held.chunk (g.W.Words.means.view c.args.table.now c.args.seat.now) (g.W.Words.means.view c.claim_over.new.table c.claim_over.new.seat) c.in_ok-held.held.position
+    c.in_ok-held.ensures.won c.in_ok-held.ensures.begun.position_is in
     absurd (omega (arith, none))
 
 pub complete-requires-clause-held : goal.complete-requires-clause-held
 complete-requires-clause-held g c =
     let old = g.W.Words.means.view c.claim_over.new.table c.claim_over.new.seat in let new = g.W.Words.means.view c.publish.new.self c.publish.new.seat in
     let held = c.in_ok-held.held in
-    let holding = subst (λ i. IsHolding old held.chunk i) (sym c.in_ok-held.ensures.begun.id_is) c.in_ok-held.ensures.holding in
+    let holding = subst (λ i. IsHolding old held.chunk i) (sym c.in_ok-held.ensures.begun.position_is) c.in_ok-held.ensures.holding in
     let bytes = c.publish.ensures.view in
-    let draft : Draft = record (draft_at old held.id) { words = bytes.words } in
+    let draft : Draft = record (draft_at old held.position) { words = bytes.words } in
     redrafts_holds old new held c.publish.new.held draft bytes.view c.publish.ensures.held holding
 
 pub complete-requires-clause-published : goal.complete-requires-clause-published
 complete-requires-clause-published g c =
     let old = g.W.Words.means.view c.claim_over.new.table c.claim_over.new.seat in let new = g.W.Words.means.view c.publish.new.self c.publish.new.seat in
     let held = c.in_ok-held.held in
-    let holding = subst (λ i. IsHolding old held.chunk i) (sym c.in_ok-held.ensures.begun.id_is) c.in_ok-held.ensures.holding in
+    let holding = subst (λ i. IsHolding old held.chunk i) (sym c.in_ok-held.ensures.begun.position_is) c.in_ok-held.ensures.holding in
     let bytes = c.publish.ensures.view in
     let copy = held.body.payload.items in
     let joined = held.body.payload.ok.0 in
     let size : c.len-size.result ≡ length copy = omega (arith, c.len-size.ensures) in
-    subst (λ (h : HeldToken). (j : ℕ) → j < length h.body.payload.items → published new h.id j ≡ byte_in h.body.payload.items j) (sym c.publish.ensures.held)
-    (λ j below. published_more old new held.chunk held.id 0 c.len-size.result copy holding bytes (omega arith) (omega arith) (λ i less. absurd (omega arith)) j (omega arith))
+    subst (λ (h : HeldToken). (j : ℕ) → j < length h.body.payload.items → published new h.position j ≡ byte_in h.body.payload.items j) (sym c.publish.ensures.held)
+    (λ j below. published_more old new held.chunk held.position 0 c.len-size.result copy holding bytes (omega arith) (omega arith) (λ i less. absurd (omega arith)) j (omega arith))
 
 pub returns : goal.returns
 returns g c =

@@ -9,7 +9,7 @@ use Rattle.chunk_plain.specs.Plain.{StandsWhole}
 use Rattle.chunk_plain.proofs.plain.PlainTable.set_complete.Goals as goal
 
 pub spot-spot-requires : goal.spot-spot-requires
-spot-spot-requires c = let self = c.args.self.now in known.held_inside self.layout self.words.items self.slots.items self.told.world self.kept c.args.place c.args.chunk c.args.id c.requires.held
+spot-spot-requires c = let self = c.args.self.now in known.held_inside self.layout self.words.items self.slots.items self.told.world self.kept c.args.place c.args.chunk c.args.position c.requires.held
 
 pub invariant_of-self-clause-kept : goal.invariant_of-self-clause-kept
 invariant_of-self-clause-kept c = let self = c.args.self.now in
@@ -17,7 +17,7 @@ invariant_of-self-clause-kept c = let self = c.args.self.now in
     let inside : at.page < length self.words.items = search rules in
     let there = sym (ap (λ (l : List Stored). (stored_at l c.args.chunk).body) c.deref.ensures.value) ∙ c.body_of.ensures in
     let is : found ≡ get_or self.words.items at.page 0 = c.index-found.ensures ∙ get_or_default_zero self.words.items at.page found inside in
-    known.complete_step self.layout self.words.items self.slots.items self.told.world self.kept c.make_step.new.told.world c.args.place c.args.chunk c.args.id found (bit_or found c.complete_mask.result) body at
+    known.complete_step self.layout self.words.items self.slots.items self.told.world self.kept c.make_step.new.told.world c.args.place c.args.chunk c.args.position found (bit_or found c.complete_mask.result) body at
     c.spot-spot.ensures.spot self.laid c.requires.place c.requires.held there
-    (known.some_is (λ (b : CommitBody). StandsWhole (spot self.layout c.args.chunk).payload_size (writer self.told.world c.args.place) c.args.id b) _ body there c.requires.whole)
+    (known.some_is (λ (b : CommitBody). StandsWhole (spot self.layout c.args.chunk).payload_size (writer self.told.world c.args.place) c.args.position b) _ body there c.requires.whole)
     is (c.complete_mask.ensures.step found) (c.complete_mask.ensures.others found) c.make_step.ensures.world

@@ -12,4 +12,4 @@ index_mut-requires c = let self = c.args.self.now in
 pub invariant_of-self-clause-kept : goal.invariant_of-self-clause-kept
 invariant_of-self-clause-kept c = let self = c.args.self.now in
     known.stamp_step self.layout self.words.items self.slots.items self.told.world self.kept c.make_step.new.told.world c.args.place c.args.chunk c.args.id c.header_index-at.result c.pack.result
-    c.header_index-at.ensures self.laid c.requires.place (let few = self.few_writers in omega arith) c.requires.claimed c.requires.unstamped c.requires.id c.requires.id_fits c.pack.ensures.word c.make_step.ensures.world
+    c.header_index-at.ensures self.laid c.requires.place (let few = self.few_writers in omega arith) c.requires.claimed c.requires.unstamped c.requires.id c.requires.few_begun c.pack.ensures.word c.make_step.ensures.world

@@ -7,10 +7,13 @@ use Rattle.chunk_plain.specs.Steps.{stamps, begins, moved}
 use Rattle.chunk_plain.specs.Drafts.{draft_at}
 use Rattle.chunk_plain.specs.Stored.{Stored, stored_at}
 use Rattle.chunk_plain.specs.Plain.{IsLent}
-use Rattle.chunk_plain.proofs.Holding.{begins_draft}
+use Rattle.chunk_plain.proofs.Holding.{begins_draft, begun_at}
 use Rattle.chunk_plain.proofs.Known as known
 use Rattle.chunk_plain.proofs.Resting as resting
 use Rattle.chunk_plain.proofs.plain_words.PlainTableWords.begin.Goals as goal
+
+pub position_at-position-requires : goal.position_at-position-requires
+position_at-position-requires c = c.requires.seat.inside
 
 pub take_body-body-requires-clause-lent : goal.take_body-body-requires-clause-lent
 take_body-body-requires-clause-lent c =
@@ -35,7 +38,8 @@ returns-clause-held c = let self = c.args.self.now in
     let same = c.set_written.ensures.slots ∙ c.store_first_header.ensures.slots in
     record {
       chunk_is = refl;
-      id_is = refl;
+      position_is = begun_at self.layout c.args.seat.now.place (length (writer self.told.world c.args.seat.now.place).begun) c.args.id c.position_at-position.result
+          c.requires.id (let few = c.requires.few_begun in omega (arith, few)) c.position_at-position.ensures;
       whole = known.claimed_size self.layout self.words.items self.slots.items self.told.world self.kept c.args.seat.now.place c.args.claimed.chunk c.take_body-body.result c.requires.claimed
           (sym (ap (λ (l : List Stored). (stored_at l c.args.claimed.chunk).body) same) ∙ c.take_body-body.ensures.body);
       empty = c.clear.ensures;
@@ -94,9 +98,9 @@ returns-clause-told c = λ world e.
     let view = begins (stamps (writer self.told.world place) chunk) chunk words in
     let same : self.told.world ≡ world = cc in
     let view_is = known.view_now self.layout self.words.items self.slots.items self.told.world self.kept next place view c.requires.seat.inside (ap (λ (w : World). w.writers) last_is) in
-    let draft_is : draft_at (writer next place) c.args.id ≡ fresh words = ap (λ v. draft_at v c.args.id) view_is ∙ (ap (λ i. draft_at view i) c.requires.id ∙ begins_draft (writer self.told.world place) chunk words) in
-    subst (λ (w : World). Some next ≡ Some (moved w place (writer next place) chunk (Writing place c.args.id (draft_at (writer next place) c.args.id)))) same
+    let n = length (writer self.told.world place).begun in
+    let draft_is : draft_at (writer next place) n ≡ fresh words = ap (λ v. draft_at v n) view_is ∙ begins_draft (writer self.told.world place) chunk words in
+    subst (λ (w : World). Some next ≡ Some (moved w place (writer next place) chunk (Writing place n (draft_at (writer next place) n)))) same
     (ap (λ (w : World). Some w) (last_is
-    ∙ (ap (λ i. moved self.told.world place view chunk (Writing place i (fresh words))) (sym c.requires.id)
-    ∙ (ap (λ d. moved self.told.world place view chunk (Writing place c.args.id d)) (sym draft_is)
-    ∙ ap (λ v. moved self.told.world place v chunk (Writing place c.args.id (draft_at (writer next place) c.args.id))) (sym view_is)))))
+    ∙ (ap (λ d. moved self.told.world place view chunk (Writing place n d)) (sym draft_is)
+    ∙ ap (λ v. moved self.told.world place v chunk (Writing place n (draft_at (writer next place) n))) (sym view_is))))

@@ -24,14 +24,14 @@ store_words-requires-clause-inside c =
 
 pub store_words-requires-clause-kept : goal.store_words-requires-clause-kept
 store_words-requires-clause-kept c =
-    subst (KeepsSealed (writer c.args.self.now.told.world c.args.seat.now.place) c.args.held.now.id) (sym c.deref.ensures.value) c.requires.kept
+    subst (KeepsSealed (writer c.args.self.now.told.world c.args.seat.now.place) c.args.held.now.position) (sym c.deref.ensures.value) c.requires.kept
 
 pub returns-clause-view : goal.returns-clause-view
 returns-clause-view c =
-    let self = c.args.self.now in let place = c.args.seat.now.place in let chunk = c.args.held.now.chunk in let id = c.args.held.now.id in
+    let self = c.args.self.now in let place = c.args.seat.now.place in let chunk = c.args.held.now.chunk in let position = c.args.held.now.position in
     let copy = c.args.held.now.body.payload.items in
     let stored = (stored_at c.store_words.new.self.slots.items chunk).words in
-    let old = draft_at (writer self.told.world place) id in
+    let old = draft_at (writer self.told.world place) position in
     let size = c.requires.size in let joined = c.args.held.now.body.payload.ok.0 in
     let whole : c.args.to ≤ length copy = let inside = c.requires.inside in omega arith in
     record {
@@ -39,23 +39,23 @@ returns-clause-view c =
       bytes = publishing.published_range copy old.words stored c.args.from c.args.to c.stored_end-end.result
           c.requires.order whole (λ less. c.stored_end-end.ensures.some less)
           (subst (λ (l : List ℕ). StoredUpTo l (c.args.from / 8) c.stored_end-end.result old.words stored) c.deref.ensures.value c.store_words.ensures.words);
-      view = publishing.drafted_view self.told.world c.store_words.new.self.told.world place chunk id (with_words old stored) c.store_words.ensures.world
+      view = publishing.drafted_view self.told.world c.store_words.new.self.told.world place chunk position (with_words old stored) c.store_words.ensures.world
           (known.seat_inside self.layout self.words.items self.slots.items self.told.world self.kept place c.requires.seat.inside);
     }
 
 pub returns-clause-step : goal.returns-clause-step
 returns-clause-step c =
     let self = c.args.self.now in let place = c.args.seat.now.place in let next = c.store_words.new.self.told.world in
-    let chunk = c.args.held.now.chunk in let id = c.args.held.now.id in
-    let draft : Draft = with_words (draft_at (writer self.told.world place) id) (stored_at c.store_words.new.self.slots.items chunk).words in
-    let view = redrafts (writer self.told.world place) chunk id draft in
+    let chunk = c.args.held.now.chunk in let position = c.args.held.now.position in
+    let draft : Draft = with_words (draft_at (writer self.told.world place) position) (stored_at c.store_words.new.self.slots.items chunk).words in
+    let view = redrafts (writer self.told.world place) chunk position draft in
     let layout_is = c.store_words.ensures.layout in let world_is = c.store_words.ensures.world in
     let writers_are = ap (λ (w : World). w.writers) world_is in
     record {
       setup_stays = layout_is;
       seat_stays = resting.seat_stays self.layout _ place view (writer next place) layout_is
           (known.view_now self.layout self.words.items self.slots.items self.told.world self.kept next place view c.requires.seat.inside writers_are)
-          (resting.entry_rest self.layout place (writer self.told.world place) c.requires.seat chunk id (Held chunk draft) c.requires.held refl);
+          (resting.entry_rest self.layout place (writer self.told.world place) c.requires.seat chunk position (Held chunk draft) c.requires.held refl);
       place_stays = refl;
       writers_stay = λ other there differs. resting.others_stay self.layout _ self.told.world next place view other.place layout_is writers_are there differs;
       service_stays = λ other serves. resting.serving_stays self.layout _ self.told.world.service next.service layout_is (ap (λ (w : World). w.service) world_is) serves;
@@ -66,8 +66,8 @@ returns-clause-step c =
 pub returns-clause-told : goal.returns-clause-told
 returns-clause-told c = λ world e.
     let self = c.args.self.now in let place = c.args.seat.now.place in let next = c.store_words.new.self.told.world in
-    let chunk = c.args.held.now.chunk in let id = c.args.held.now.id in
-    let draft : Draft = with_words (draft_at (writer self.told.world place) id) (stored_at c.store_words.new.self.slots.items chunk).words in
+    let chunk = c.args.held.now.chunk in let position = c.args.held.now.position in
+    let draft : Draft = with_words (draft_at (writer self.told.world place) position) (stored_at c.store_words.new.self.slots.items chunk).words in
     let same : self.told.world ≡ world = cc in
-    subst (λ (w : World). Some next ≡ Some (moved w place (writer next place) chunk (Writing place id (draft_at (writer next place) id)))) same
-    (ap (λ (w : World). Some w) (resting.told_drafted self.told.world next place chunk id draft (known.seat_inside self.layout self.words.items self.slots.items self.told.world self.kept place c.requires.seat.inside) c.requires.held c.store_words.ensures.world))
+    subst (λ (w : World). Some next ≡ Some (moved w place (writer next place) chunk (Writing place position (draft_at (writer next place) position)))) same
+    (ap (λ (w : World). Some w) (resting.told_drafted self.told.world next place chunk position draft (known.seat_inside self.layout self.words.items self.slots.items self.told.world self.kept place c.requires.seat.inside) c.requires.held c.store_words.ensures.world))

@@ -7,7 +7,7 @@ use Rattle.page_geometry.specs.declared.chunk_state.ChunkState.TheVariants.{Comp
 use Rattle.page_geometry.specs.PageBits.{HasState}
 use Rattle.commit_body.specs.declared.body.CommitBody.{CommitBody}
 use Rattle.chunk_plain.specs.declared.setup.Spot.{Spot}
-use Rattle.chunk_plain.specs.Setup.{spot}
+use Rattle.chunk_plain.specs.Setup.{Setup, spot, from_of, id_at}
 use Rattle.chunk_plain.specs.Payload.{byte_at, byte_in}
 use Rattle.chunk_plain.specs.Views.{Head, Content, taken_of, ServiceView}
 use Rattle.chunk_plain.specs.World.{World, Ready, Reading, status}
@@ -30,9 +30,9 @@ set_read-requires-clause-ready c =
     (subst (HasState seen.word.0 at.place) (same_true the_type (search rules) _ _ (not_false _ _ c.if-ne.false c.ne.ensures)) c.state.ensures.bits) in
     let inside_w : place < length self.layout.writers = omega arith in
     let found = ready_found self.layout self.words.items self.slots.items self.told.world self.kept place chunk header c.requires.chunk
-    (subst (λ w. HasState w (spot self.layout chunk).place Complete) c.peek-seen.ensures.word complete) c.peek-seen.ensures.fields (let is = c.if-header-writer.false in omega arith) in
-    let id_is : header.chunk_id ≡ (taken_of self.told.world.service place).count = c.if-header-id.false ∙ c.requires.id in
-    taking.is_ready self.layout self.slots.items self.told.world place chunk header.chunk_id head found id_is
+    (subst (λ w. HasState w (spot self.layout chunk).place Complete) c.peek-seen.ensures.word complete) c.peek-seen.ensures.fields (let is = c.if-header-writer.false in omega arith) (c.if-header-id.false ∙ c.requires.id) in
+    let position = (taken_of self.told.world.service place).count in
+    taking.is_ready self.layout self.slots.items self.told.world place chunk position head found refl
 
 pub take_body-body-requires-clause-lent : goal.take_body-body-requires-clause-lent
 take_body-body-requires-clause-lent c =
@@ -43,11 +43,11 @@ take_body-body-requires-clause-lent c =
     (subst (HasState seen.word.0 at.place) (same_true the_type (search rules) _ _ (not_false _ _ c.if-ne.false c.ne.ensures)) c.state.ensures.bits) in
     let inside_w : place < length self.layout.writers = omega arith in
     let found = ready_found self.layout self.words.items self.slots.items self.told.world self.kept place chunk header c.requires.chunk
-    (subst (λ w. HasState w (spot self.layout chunk).place Complete) c.peek-seen.ensures.word complete) c.peek-seen.ensures.fields (let is = c.if-header-writer.false in omega arith) in
-    let id_is : header.chunk_id ≡ (taken_of self.told.world.service place).count = c.if-header-id.false ∙ c.requires.id in
+    (subst (λ w. HasState w (spot self.layout chunk).place Complete) c.peek-seen.ensures.word complete) c.peek-seen.ensures.fields (let is = c.if-header-writer.false in omega arith) (c.if-header-id.false ∙ c.requires.id) in
+    let position = (taken_of self.told.world.service place).count in
     let inside_c : chunk < length self.told.world.chunks = let many = known.chunks_inside self.layout self.words.items self.slots.items self.told.world self.kept in omega (arith, many) in
-    let reading = taking.is_reading self.layout self.slots.items self.told.world place chunk header.chunk_id head found c.set_read.new.self.told.world seen.word.0 header inside_c c.set_read.ensures.world in
-    taking.lent_by c.set_read.new.self.told.world place chunk header.chunk_id reading
+    let reading = taking.is_reading self.layout self.slots.items self.told.world place chunk position head found c.set_read.new.self.told.world seen.word.0 header inside_c c.set_read.ensures.world in
+    taking.lent_by c.set_read.new.self.told.world place chunk position reading
 
 pub take_body-body-requires-clause-there : goal.take_body-body-requires-clause-there
 take_body-body-requires-clause-there c =
@@ -58,9 +58,9 @@ take_body-body-requires-clause-there c =
     (subst (HasState seen.word.0 at.place) (same_true the_type (search rules) _ _ (not_false _ _ c.if-ne.false c.ne.ensures)) c.state.ensures.bits) in
     let inside_w : place < length self.layout.writers = omega arith in
     let found = ready_found self.layout self.words.items self.slots.items self.told.world self.kept place chunk header c.requires.chunk
-    (subst (λ w. HasState w (spot self.layout chunk).place Complete) c.peek-seen.ensures.word complete) c.peek-seen.ensures.fields (let is = c.if-header-writer.false in omega arith) in
-    let id_is : header.chunk_id ≡ (taken_of self.told.world.service place).count = c.if-header-id.false ∙ c.requires.id in
-    subst (λ (l : List Stored). IsSome (stored_at l chunk).body) (sym c.set_read.ensures.slots) (taking.has_body self.layout self.slots.items self.told.world place chunk header.chunk_id head found)
+    (subst (λ w. HasState w (spot self.layout chunk).place Complete) c.peek-seen.ensures.word complete) c.peek-seen.ensures.fields (let is = c.if-header-writer.false in omega arith) (c.if-header-id.false ∙ c.requires.id) in
+    let position = (taken_of self.told.world.service place).count in
+    subst (λ (l : List Stored). IsSome (stored_at l chunk).body) (sym c.set_read.ensures.slots) (taking.has_body self.layout self.slots.items self.told.world place chunk position head found)
 
 pub load_taken-requires-clause-size : goal.load_taken-requires-clause-size
 load_taken-requires-clause-size c =
@@ -71,13 +71,13 @@ load_taken-requires-clause-size c =
     (subst (HasState seen.word.0 at.place) (same_true the_type (search rules) _ _ (not_false _ _ c.if-ne.false c.ne.ensures)) c.state.ensures.bits) in
     let inside_w : place < length self.layout.writers = omega arith in
     let found = ready_found self.layout self.words.items self.slots.items self.told.world self.kept place chunk header c.requires.chunk
-    (subst (λ w. HasState w (spot self.layout chunk).place Complete) c.peek-seen.ensures.word complete) c.peek-seen.ensures.fields (let is = c.if-header-writer.false in omega arith) in
-    let id_is : header.chunk_id ≡ (taken_of self.told.world.service place).count = c.if-header-id.false ∙ c.requires.id in
+    (subst (λ w. HasState w (spot self.layout chunk).place Complete) c.peek-seen.ensures.word complete) c.peek-seen.ensures.fields (let is = c.if-header-writer.false in omega arith) (c.if-header-id.false ∙ c.requires.id) in
+    let position = (taken_of self.told.world.service place).count in
     let inside_c : chunk < length self.told.world.chunks = let many = known.chunks_inside self.layout self.words.items self.slots.items self.told.world self.kept in omega (arith, many) in
-    let reading = taking.is_reading self.layout self.slots.items self.told.world place chunk header.chunk_id head found c.set_read.new.self.told.world seen.word.0 header inside_c c.set_read.ensures.world in
+    let reading = taking.is_reading self.layout self.slots.items self.told.world place chunk position head found c.set_read.new.self.told.world seen.word.0 header inside_c c.set_read.ensures.world in
     let taken = c.take_body-body.result in
     let was_there : (stored_at self.slots.items chunk).body ≡ Some taken = sym (ap (λ (l : List Stored). (stored_at l chunk).body) c.set_read.ensures.slots) ∙ c.take_body-body.ensures.body in
-    let size = taking.body_size self.layout self.slots.items self.told.world place chunk header.chunk_id head found taken was_there in
+    let size = taking.body_size self.layout self.slots.items self.told.world place chunk position head found taken was_there in
     let layout_is = c.take_body-body.ensures.layout ∙ c.set_read.ensures.layout in
     c.deref_mut.ensures.len ∙ (size ∙ ap (λ s. (spot s chunk).payload_size) (sym layout_is))
 
@@ -90,23 +90,27 @@ learn-requires-clause-content c =
     (subst (HasState seen.word.0 at.place) (same_true the_type (search rules) _ _ (not_false _ _ c.if-ne.false c.ne.ensures)) c.state.ensures.bits) in
     let inside_w : place < length self.layout.writers = omega arith in
     let found = ready_found self.layout self.words.items self.slots.items self.told.world self.kept place chunk header c.requires.chunk
-    (subst (λ w. HasState w (spot self.layout chunk).place Complete) c.peek-seen.ensures.word complete) c.peek-seen.ensures.fields (let is = c.if-header-writer.false in omega arith) in
-    let id_is : header.chunk_id ≡ (taken_of self.told.world.service place).count = c.if-header-id.false ∙ c.requires.id in
+    (subst (λ w. HasState w (spot self.layout chunk).place Complete) c.peek-seen.ensures.word complete) c.peek-seen.ensures.fields (let is = c.if-header-writer.false in omega arith) (c.if-header-id.false ∙ c.requires.id) in
+    let position = (taken_of self.told.world.service place).count in
     let inside_c : chunk < length self.told.world.chunks = let many = known.chunks_inside self.layout self.words.items self.slots.items self.told.world self.kept in omega (arith, many) in
-    let reading = taking.is_reading self.layout self.slots.items self.told.world place chunk header.chunk_id head found c.set_read.new.self.told.world seen.word.0 header inside_c c.set_read.ensures.world in
+    let reading = taking.is_reading self.layout self.slots.items self.told.world place chunk position head found c.set_read.new.self.told.world seen.word.0 header inside_c c.set_read.ensures.world in
     let taken = c.take_body-body.result in
     let was_there : (stored_at self.slots.items chunk).body ≡ Some taken = sym (ap (λ (l : List Stored). (stored_at l chunk).body) c.set_read.ensures.slots) ∙ c.take_body-body.ensures.body in
-    let size = taking.body_size self.layout self.slots.items self.told.world place chunk header.chunk_id head found taken was_there in
+    let size = taking.body_size self.layout self.slots.items self.told.world place chunk position head found taken was_there in
     let full : CommitBody = record { payload = with_items taken.payload c.load_taken.new.into; patches = taken.patches; target = taken.target } in
     let many : length c.load_taken.new.into ≡ (spot self.layout chunk).payload_size = c.load_taken.ensures.size ∙ (c.deref_mut.ensures.len ∙ size) in
     let items_are : full.payload.items ≡ c.load_taken.new.into = with_items_is taken.payload c.load_taken.new.into (c.load_taken.ensures.size ∙ c.deref_mut.ensures.len) in
     let words_are = c.take_body-body.ensures.words ∙ ap (λ (l : List Stored). (stored_at l chunk).words) c.set_read.ensures.slots in
-    let content = taking.is_content self.layout self.slots.items self.told.world place chunk header.chunk_id head found taken full was_there (ap (λ (l : List ℕ). length l) items_are ∙ many)
+    let content = taking.is_content self.layout self.slots.items self.told.world place chunk position head found taken full was_there (ap (λ (l : List ℕ). length l) items_are ∙ many)
     (λ j below. ap (λ (l : List ℕ). byte_in l j) items_are ∙ (c.load_taken.ensures.bytes j (subst (λ (l : List ℕ). j < length l) items_are below) ∙ ap (λ (l : List ℕ). byte_at l j) words_are)) refl refl in
     let between = taking.taken_between self.layout self.told.world c.set_read.new.self.told.world place chunk seen.word.0 header c.requires.seat inside_w c.set_read.ensures.world in
-    let read = taking.reads_content self.told.world c.set_read.new.self.told.world place chunk seen.word.0 header.chunk_id header (content_of place header.chunk_id head full) inside_c c.set_read.ensures.world content in
-    subst (λ (w : World). ∥ status w chunk ≡ Reading place (length (taken_of w.service place).contents) (content_of place header.chunk_id head full) ∥₁) (sym c.take_body-body.ensures.world)
-    (subst (λ i. ∥ status c.set_read.new.self.told.world chunk ≡ Reading place i (content_of place header.chunk_id head full) ∥₁) (id_is ∙ sym between.1) read)
+    let read = taking.reads_content self.told.world c.set_read.new.self.told.world place chunk seen.word.0 position header (content_of (from_of self.layout place) place position head full) inside_c c.set_read.ensures.world content in
+    let layout_is = c.take_body-body.ensures.layout ∙ c.set_read.ensures.layout in
+    subst (λ (s : Setup). let w = c.take_body-body.new.self.told.world in let i = length (taken_of w.service place).contents in
+    ∥ status w chunk ≡ Reading place i (content_of (from_of s place) place i head full) ∥₁) (sym layout_is)
+    (subst (λ (w : World). let i = length (taken_of w.service place).contents in
+    ∥ status w chunk ≡ Reading place i (content_of (from_of self.layout place) place i head full) ∥₁) (sym c.take_body-body.ensures.world)
+    (subst (λ (i : ℕ). ∥ status c.set_read.new.self.told.world chunk ≡ Reading place i (content_of (from_of self.layout place) place i head full) ∥₁) (sym between.1) read))
 
 pub returns-clause-taken : goal.returns-clause-taken
 returns-clause-taken c =
@@ -117,23 +121,25 @@ returns-clause-taken c =
     (subst (HasState seen.word.0 at.place) (same_true the_type (search rules) _ _ (not_false _ _ c.if-ne.false c.ne.ensures)) c.state.ensures.bits) in
     let inside_w : place < length self.layout.writers = omega arith in
     let found = ready_found self.layout self.words.items self.slots.items self.told.world self.kept place chunk header c.requires.chunk
-    (subst (λ w. HasState w (spot self.layout chunk).place Complete) c.peek-seen.ensures.word complete) c.peek-seen.ensures.fields (let is = c.if-header-writer.false in omega arith) in
-    let id_is : header.chunk_id ≡ (taken_of self.told.world.service place).count = c.if-header-id.false ∙ c.requires.id in
+    (subst (λ w. HasState w (spot self.layout chunk).place Complete) c.peek-seen.ensures.word complete) c.peek-seen.ensures.fields (let is = c.if-header-writer.false in omega arith) (c.if-header-id.false ∙ c.requires.id) in
+    let position = (taken_of self.told.world.service place).count in
     let inside_c : chunk < length self.told.world.chunks = let many = known.chunks_inside self.layout self.words.items self.slots.items self.told.world self.kept in omega (arith, many) in
-    let reading = taking.is_reading self.layout self.slots.items self.told.world place chunk header.chunk_id head found c.set_read.new.self.told.world seen.word.0 header inside_c c.set_read.ensures.world in
+    let reading = taking.is_reading self.layout self.slots.items self.told.world place chunk position head found c.set_read.new.self.told.world seen.word.0 header inside_c c.set_read.ensures.world in
     let taken = c.take_body-body.result in
     let was_there : (stored_at self.slots.items chunk).body ≡ Some taken = sym (ap (λ (l : List Stored). (stored_at l chunk).body) c.set_read.ensures.slots) ∙ c.take_body-body.ensures.body in
-    let size = taking.body_size self.layout self.slots.items self.told.world place chunk header.chunk_id head found taken was_there in
+    let size = taking.body_size self.layout self.slots.items self.told.world place chunk position head found taken was_there in
     let full : CommitBody = record { payload = with_items taken.payload c.load_taken.new.into; patches = taken.patches; target = taken.target } in
     let many : length c.load_taken.new.into ≡ (spot self.layout chunk).payload_size = c.load_taken.ensures.size ∙ (c.deref_mut.ensures.len ∙ size) in
     let items_are : full.payload.items ≡ c.load_taken.new.into = with_items_is taken.payload c.load_taken.new.into (c.load_taken.ensures.size ∙ c.deref_mut.ensures.len) in
     let words_are = c.take_body-body.ensures.words ∙ ap (λ (l : List Stored). (stored_at l chunk).words) c.set_read.ensures.slots in
-    let content = taking.is_content self.layout self.slots.items self.told.world place chunk header.chunk_id head found taken full was_there (ap (λ (l : List ℕ). length l) items_are ∙ many)
+    let content = taking.is_content self.layout self.slots.items self.told.world place chunk position head found taken full was_there (ap (λ (l : List ℕ). length l) items_are ∙ many)
     (λ j below. ap (λ (l : List ℕ). byte_in l j) items_are ∙ (c.load_taken.ensures.bytes j (subst (λ (l : List ℕ). j < length l) items_are below) ∙ ap (λ (l : List ℕ). byte_at l j) words_are)) refl refl in
     let between = taking.taken_between self.layout self.told.world c.set_read.new.self.told.world place chunk seen.word.0 header c.requires.seat inside_w c.set_read.ensures.world in
     let middle = c.take_body-body.new.self.told.world in let next = c.learn.new.self.told.world in
-    let full_content = content_of place header.chunk_id head full in
+    let full_content = content_of (from_of self.layout place) place position head full in
     let took = c.take_body-body.ensures.world ∙ c.set_read.ensures.world in
+    let learnt = taking.learnt_at self.layout c.take_body-body.new.self.layout self.told.world middle next place chunk seen.word.0 header head full c.requires.seat inside_w
+    (c.take_body-body.ensures.layout ∙ c.set_read.ensures.layout) took c.learn.ensures.world in
     record {
       word = seen.word.0;
       complete = complete;
@@ -143,7 +149,7 @@ returns-clause-taken c =
       count_fits = c.peek-seen.ensures.count_fits;
       flags_fit = c.peek-seen.ensures.flags_fit;
       whole = size;
-      view = taking.taken_service self.told.world middle next place chunk seen.word.0 header full_content took c.learn.ensures.world;
+      view = taking.taken_service self.told.world middle next place chunk seen.word.0 header full_content took learnt;
     }
 
 pub returns-clause-step : goal.returns-clause-step
@@ -155,26 +161,28 @@ returns-clause-step c =
     (subst (HasState seen.word.0 at.place) (same_true the_type (search rules) _ _ (not_false _ _ c.if-ne.false c.ne.ensures)) c.state.ensures.bits) in
     let inside_w : place < length self.layout.writers = omega arith in
     let found = ready_found self.layout self.words.items self.slots.items self.told.world self.kept place chunk header c.requires.chunk
-    (subst (λ w. HasState w (spot self.layout chunk).place Complete) c.peek-seen.ensures.word complete) c.peek-seen.ensures.fields (let is = c.if-header-writer.false in omega arith) in
-    let id_is : header.chunk_id ≡ (taken_of self.told.world.service place).count = c.if-header-id.false ∙ c.requires.id in
+    (subst (λ w. HasState w (spot self.layout chunk).place Complete) c.peek-seen.ensures.word complete) c.peek-seen.ensures.fields (let is = c.if-header-writer.false in omega arith) (c.if-header-id.false ∙ c.requires.id) in
+    let position = (taken_of self.told.world.service place).count in
     let inside_c : chunk < length self.told.world.chunks = let many = known.chunks_inside self.layout self.words.items self.slots.items self.told.world self.kept in omega (arith, many) in
-    let reading = taking.is_reading self.layout self.slots.items self.told.world place chunk header.chunk_id head found c.set_read.new.self.told.world seen.word.0 header inside_c c.set_read.ensures.world in
+    let reading = taking.is_reading self.layout self.slots.items self.told.world place chunk position head found c.set_read.new.self.told.world seen.word.0 header inside_c c.set_read.ensures.world in
     let taken = c.take_body-body.result in
     let was_there : (stored_at self.slots.items chunk).body ≡ Some taken = sym (ap (λ (l : List Stored). (stored_at l chunk).body) c.set_read.ensures.slots) ∙ c.take_body-body.ensures.body in
-    let size = taking.body_size self.layout self.slots.items self.told.world place chunk header.chunk_id head found taken was_there in
+    let size = taking.body_size self.layout self.slots.items self.told.world place chunk position head found taken was_there in
     let full : CommitBody = record { payload = with_items taken.payload c.load_taken.new.into; patches = taken.patches; target = taken.target } in
     let many : length c.load_taken.new.into ≡ (spot self.layout chunk).payload_size = c.load_taken.ensures.size ∙ (c.deref_mut.ensures.len ∙ size) in
     let items_are : full.payload.items ≡ c.load_taken.new.into = with_items_is taken.payload c.load_taken.new.into (c.load_taken.ensures.size ∙ c.deref_mut.ensures.len) in
     let words_are = c.take_body-body.ensures.words ∙ ap (λ (l : List Stored). (stored_at l chunk).words) c.set_read.ensures.slots in
-    let content = taking.is_content self.layout self.slots.items self.told.world place chunk header.chunk_id head found taken full was_there (ap (λ (l : List ℕ). length l) items_are ∙ many)
+    let content = taking.is_content self.layout self.slots.items self.told.world place chunk position head found taken full was_there (ap (λ (l : List ℕ). length l) items_are ∙ many)
     (λ j below. ap (λ (l : List ℕ). byte_in l j) items_are ∙ (c.load_taken.ensures.bytes j (subst (λ (l : List ℕ). j < length l) items_are below) ∙ ap (λ (l : List ℕ). byte_at l j) words_are)) refl refl in
     let between = taking.taken_between self.layout self.told.world c.set_read.new.self.told.world place chunk seen.word.0 header c.requires.seat inside_w c.set_read.ensures.world in
     let middle = c.take_body-body.new.self.told.world in let next = c.learn.new.self.told.world in
-    let full_content = content_of place header.chunk_id head full in
+    let full_content = content_of (from_of self.layout place) place position head full in
     let took = c.take_body-body.ensures.world ∙ c.set_read.ensures.world in
+    let learnt = taking.learnt_at self.layout c.take_body-body.new.self.layout self.told.world middle next place chunk seen.word.0 header head full c.requires.seat inside_w
+    (c.take_body-body.ensures.layout ∙ c.set_read.ensures.layout) took c.learn.ensures.world in
     let layout_is = c.learn.ensures.layout ∙ (c.take_body-body.ensures.layout ∙ c.set_read.ensures.layout) in
-    let service_is = taking.taken_service self.told.world middle next place chunk seen.word.0 header full_content took c.learn.ensures.world in
-    let writers_are = taking.taken_writers self.told.world middle next place chunk seen.word.0 header full_content took c.learn.ensures.world in
+    let service_is = taking.taken_service self.told.world middle next place chunk seen.word.0 header full_content took learnt in
+    let writers_are = taking.taken_writers self.told.world middle next place chunk seen.word.0 header full_content took learnt in
     record {
       setup_stays = layout_is;
       seat_stays = resting.serves_stays self.layout _ _ next.service layout_is service_is (taking.taken_serves self.layout self.told.world.service place chunk seen.word.0 header full_content c.requires.seat inside_w);
@@ -192,28 +200,29 @@ returns-clause-told_taken c = λ world e.
     (subst (HasState seen.word.0 at.place) (same_true the_type (search rules) _ _ (not_false _ _ c.if-ne.false c.ne.ensures)) c.state.ensures.bits) in
     let inside_w : place < length self.layout.writers = omega arith in
     let found = ready_found self.layout self.words.items self.slots.items self.told.world self.kept place chunk header c.requires.chunk
-    (subst (λ w. HasState w (spot self.layout chunk).place Complete) c.peek-seen.ensures.word complete) c.peek-seen.ensures.fields (let is = c.if-header-writer.false in omega arith) in
-    let id_is : header.chunk_id ≡ (taken_of self.told.world.service place).count = c.if-header-id.false ∙ c.requires.id in
+    (subst (λ w. HasState w (spot self.layout chunk).place Complete) c.peek-seen.ensures.word complete) c.peek-seen.ensures.fields (let is = c.if-header-writer.false in omega arith) (c.if-header-id.false ∙ c.requires.id) in
+    let position = (taken_of self.told.world.service place).count in
     let inside_c : chunk < length self.told.world.chunks = let many = known.chunks_inside self.layout self.words.items self.slots.items self.told.world self.kept in omega (arith, many) in
-    let reading = taking.is_reading self.layout self.slots.items self.told.world place chunk header.chunk_id head found c.set_read.new.self.told.world seen.word.0 header inside_c c.set_read.ensures.world in
+    let reading = taking.is_reading self.layout self.slots.items self.told.world place chunk position head found c.set_read.new.self.told.world seen.word.0 header inside_c c.set_read.ensures.world in
     let taken = c.take_body-body.result in
     let was_there : (stored_at self.slots.items chunk).body ≡ Some taken = sym (ap (λ (l : List Stored). (stored_at l chunk).body) c.set_read.ensures.slots) ∙ c.take_body-body.ensures.body in
-    let size = taking.body_size self.layout self.slots.items self.told.world place chunk header.chunk_id head found taken was_there in
+    let size = taking.body_size self.layout self.slots.items self.told.world place chunk position head found taken was_there in
     let full : CommitBody = record { payload = with_items taken.payload c.load_taken.new.into; patches = taken.patches; target = taken.target } in
     let many : length c.load_taken.new.into ≡ (spot self.layout chunk).payload_size = c.load_taken.ensures.size ∙ (c.deref_mut.ensures.len ∙ size) in
     let items_are : full.payload.items ≡ c.load_taken.new.into = with_items_is taken.payload c.load_taken.new.into (c.load_taken.ensures.size ∙ c.deref_mut.ensures.len) in
     let words_are = c.take_body-body.ensures.words ∙ ap (λ (l : List Stored). (stored_at l chunk).words) c.set_read.ensures.slots in
-    let content = taking.is_content self.layout self.slots.items self.told.world place chunk header.chunk_id head found taken full was_there (ap (λ (l : List ℕ). length l) items_are ∙ many)
+    let content = taking.is_content self.layout self.slots.items self.told.world place chunk position head found taken full was_there (ap (λ (l : List ℕ). length l) items_are ∙ many)
     (λ j below. ap (λ (l : List ℕ). byte_in l j) items_are ∙ (c.load_taken.ensures.bytes j (subst (λ (l : List ℕ). j < length l) items_are below) ∙ ap (λ (l : List ℕ). byte_at l j) words_are)) refl refl in
     let between = taking.taken_between self.layout self.told.world c.set_read.new.self.told.world place chunk seen.word.0 header c.requires.seat inside_w c.set_read.ensures.world in
     let middle = c.take_body-body.new.self.told.world in let next = c.learn.new.self.told.world in
-    let full_content = content_of place header.chunk_id head full in
+    let full_content = content_of (from_of self.layout place) place position head full in
     let took = c.take_body-body.ensures.world ∙ c.set_read.ensures.world in
+    let learnt = taking.learnt_at self.layout c.take_body-body.new.self.layout self.told.world middle next place chunk seen.word.0 header head full c.requires.seat inside_w
+    (c.take_body-body.ensures.layout ∙ c.set_read.ensures.layout) took c.learn.ensures.world in
     let same : self.told.world ≡ world = cc in
-    let ready = subst (λ i. ∥ status self.told.world chunk ≡ Ready place i full_content ∥₁) c.if-header-id.false content in
-    subst (λ (w : World). ∥ status w chunk ≡ Ready place c.args.id full_content ∥₁ × (Some next ≡ Some (served w next.service chunk (Reading place c.args.id full_content)))) same (
-      ready,
-      ap (λ (w : World). Some w) (taking.taken_world self.told.world middle next place chunk seen.word.0 c.args.id header full_content took c.learn.ensures.world ready),
+    subst (λ (w : World). ∥ status w chunk ≡ Ready place position full_content ∥₁ × (Some next ≡ Some (served w next.service chunk (Reading place position full_content)))) same (
+      content,
+      ap (λ (w : World). Some w) (taking.taken_world self.told.world middle next place chunk seen.word.0 position header full_content took learnt content),
     )
 
 pub returns-then-header-writer-clause-told_other : goal.returns-then-header-writer-clause-told_other
@@ -223,13 +232,14 @@ returns-then-header-writer-clause-told_other c = λ world e.
     let same : self.told.world ≡ world = cc in
     let back : c.args.writer ≡ place + 1 = omega arith in
     let at_is : c.spot-place.result.place ≡ (spot self.layout chunk).place = ap (λ (s : Spot). s.place) c.spot-place.ensures.spot in
-    let other : HasState seen.word.0 (spot self.layout chunk).place Complete → header.writer_id ≡ place + 1 → header.chunk_id ≡ c.args.id → ⊥ = λ complete writer id_is.
+    let position = (taken_of self.told.world.service place).count in
+    let other : HasState seen.word.0 (spot self.layout chunk).place Complete → header.writer_id ≡ place + 1 → header.chunk_id ≡ id_at self.layout place position → ⊥ = λ complete writer id_is.
     elim c.then-header-writer.branch [
       | then-header-writer-via-else-header-writer+else-header-id+then-ne w ↦ let found = w.state.ensures.only Complete (subst (λ (p : ℕ). HasState seen.word.0 p Complete) (sym at_is) complete) in let t = w.if-ne.true in let n : w.ne.result ≡ false = w.ne.ensures ∙ ap (λ s. not (sameb the_type s Complete)) found in absurd (true≢false (sym t ∙ n))
       | then-header-writer-via-then-header-writer w ↦ w.if-header-writer.true (omega (arith, back, writer))
-      | then-header-writer-via-else-header-writer+then-header-id w ↦ w.if-header-id.true id_is
+      | then-header-writer-via-else-header-writer+then-header-id w ↦ w.if-header-id.true (id_is ∙ sym c.requires.id)
     ] in
-    subst (λ (w : World). ((content : Content) → status w chunk ≡ Ready place c.args.id content → ⊥) × (Some next ≡ Some (serviced w next.service))) same (
-      other_found self.layout self.words.items self.slots.items self.told.world self.kept place chunk c.args.id seen.word.0 header c.requires.chunk c.peek-seen.ensures.word c.peek-seen.ensures.fields other,
+    subst (λ (w : World). ((content : Content) → status w chunk ≡ Ready place position content → ⊥) × (Some next ≡ Some (serviced w next.service))) same (
+      other_found self.layout self.words.items self.slots.items self.told.world self.kept place chunk position seen.word.0 header c.requires.chunk c.peek-seen.ensures.word c.peek-seen.ensures.fields other,
       ap (λ (w : World). Some w) (c.note_look.ensures.world ∙ ap (λ service. serviced self.told.world service) (sym (ap (λ (w : World). w.service) c.note_look.ensures.world))),
     )
