@@ -20,27 +20,27 @@ pub claim_is : (world : World) (place chunk found : ℕ) (won : Bool) (is : Stat
 claim_is world place chunk found true Unclaimed free held = refl
 claim_is world place chunk found false Unclaimed free held = absurd (held refl refl)
 claim_is world place chunk found true (Claimed other) free held = absurd (let clash = free refl in cc)
-claim_is world place chunk found true (Stamped other id) free held = absurd (let clash = free refl in cc)
-claim_is world place chunk found true (Writing other id draft) free held = absurd (let clash = free refl in cc)
-claim_is world place chunk found true (Ready other id content) free held = absurd (let clash = free refl in cc)
-claim_is world place chunk found true (Reading other id content) free held = absurd (let clash = free refl in cc)
+claim_is world place chunk found true (Stamped other position) free held = absurd (let clash = free refl in cc)
+claim_is world place chunk found true (Writing other position draft) free held = absurd (let clash = free refl in cc)
+claim_is world place chunk found true (Ready other position content) free held = absurd (let clash = free refl in cc)
+claim_is world place chunk found true (Reading other position content) free held = absurd (let clash = free refl in cc)
 claim_is world place chunk found false (Claimed other) free held = refl
-claim_is world place chunk found false (Stamped other id) free held = refl
-claim_is world place chunk found false (Writing other id draft) free held = refl
-claim_is world place chunk found false (Ready other id content) free held = refl
-claim_is world place chunk found false (Reading other id content) free held = refl
+claim_is world place chunk found false (Stamped other position) free held = refl
+claim_is world place chunk found false (Writing other position draft) free held = refl
+claim_is world place chunk found false (Ready other position content) free held = refl
+claim_is world place chunk found false (Reading other position content) free held = refl
 
 -- somebody has a chunk whose claim bit is set
 pub bit_held : (word place : ℕ) (is : Status) → bit_at word (32 + place) ≡ claim_of is → bit_at word (32 + place) ≡ 1 → is ≡ Unclaimed → ⊥
 bit_held word place is bit one free = let none : claim_of is ≡ 0 = ap claim_of free in absurd (omega (arith, bit, one, none))
 
 -- a chunk that stands whole may be completed
-pub may_complete : (size place id : ℕ) (view : WriterView) (body : CommitBody) → StandsWhole size view id body
-    → sealed_to (draft_at view id).ends ≤ size → MayComplete place id (draft_at view id) (content_of place id (head_at view id) body)
-may_complete size place id view body whole most =
+pub may_complete : (from size place position : ℕ) (view : WriterView) (body : CommitBody) → StandsWhole size view position body
+    → sealed_to (draft_at view position).ends ≤ size → MayComplete place position (draft_at view position) (content_of from place position (head_at view position) body)
+may_complete from size place position view body whole most =
     let many : length body.payload.items ≡ size = let size_is = whole.size_is in let same = body.payload.ok.0 in omega arith in
     record {
-      id_is = refl;
+      position_is = refl;
       sequence_is = refl;
       head_is = refl;
       inside = omega arith;

@@ -45,7 +45,7 @@ pub loads_none : (chunk size : ℕ) (bytes : List ℕ) (me : Mine) → IsService
 loads_none chunk size bytes me service = record {
   watch = watch_of me.0;
   new_is = service;
-  stays = λ place id content is. refl;
+  stays = λ place position content is. refl;
   found = λ n look found at about same untaken some. absurd (omega arith);
   reading = λ has some. absurd (omega arith);
 }
@@ -53,11 +53,11 @@ loads_none chunk size bytes me service = record {
 reads_next : (chunk index size word : ℕ) (old new : List ℕ) (before after : Watch) (view : ServiceView) → PutsWord index word old new → length old ≡ size
     → Tells chunk index size word before after view → ReadsOn chunk index size old before view → ReadsOn chunk (index + 1) size new after view
 reads_next chunk index size word old new before after view puts many tells on =
-    let is : after ≡ Lifted chunk on.place on.id on.content = tells.stays on.place on.id on.content on.watches ∙ on.watches in
-    let read = tells.read on.place on.id on.content is in
+    let is : after ≡ Lifted chunk on.place on.position on.content = tells.stays on.place on.position on.content on.watches ∙ on.watches in
+    let read = tells.read on.place on.position on.content is in
     record {
       place = on.place;
-      id = on.id;
+      position = on.position;
       content = on.content;
       watches = is;
       taken = on.taken;
@@ -74,7 +74,7 @@ reads_first chunk size word old new before after view puts many tells has =
     let read = tells.read r.0 r.1 r.2 r.3 in
     record {
       place = r.0;
-      id = r.1;
+      position = r.1;
       content = r.2;
       watches = r.3;
       taken = r.4;
@@ -93,7 +93,7 @@ loads_next chunk index size word old new me mid next so_far step puts many =
     record {
       watch = step.watch;
       new_is = step.new_is ∙ ap (λ (m : Mine). let n : Mine = (by_service (hand_of m.0) step.watch (λ v. v) m.0, m.1) in n) so_far.new_is;
-      stays = λ place id content is. let same = so_far.stays place id content is in tells.stays place id content (same ∙ is) ∙ same;
+      stays = λ place position content is. let same = so_far.stays place position content is in tells.stays place position content (same ∙ is) ∙ same;
       found = λ n look found at about same untaken some.
           let now = tells.found n look found at about same untaken in (
             now.0,
@@ -120,11 +120,11 @@ pub loaded_read : (setup : Setup) (chunk size : ℕ) (bytes : List ℕ) (me new 
 loaded_read setup chunk size bytes me new loads many some serving has =
     ∥∥₁_map (loads.reading has (omega arith)) (λ on.
     let view = service_of me.0 in
-    let there = at_some (taken_of view on.place).contents on.id (let level = serving.level on.place in let taken = on.taken in omega arith) in
+    let there = at_some (taken_of view on.place).contents on.position (let level = serving.level on.place in let taken = on.taken in omega arith) in
     record {
       place = on.place;
-      id = on.id;
+      position = on.position;
       content = on.content;
-      at = subst (λ c. At (taken_of view on.place).contents on.id c) (on.known there.0 there.1) there.1;
+      at = subst (λ c. At (taken_of view on.place).contents on.position c) (on.known there.0 there.1) there.1;
       bytes_are = same_number_lists bytes on.content.image.payload (many ∙ sym on.whole) (λ j below. on.bytes_are j (omega arith) (omega arith));
     })

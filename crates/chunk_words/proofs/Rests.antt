@@ -54,9 +54,9 @@ pub attends_now : (table : HostTable) (old new : ServiceSeat) (watch : Watch) (v
 attends_now table old new watch view attends joined is serving seen = attends_as table old new (desk_of old.seat.me.0) watch view attends joined refl is serving seen
 
 -- so is a chunk that a writer at rest holds
-pub held_of_table : (setup : Setup) (place chunk id : ℕ) (view : WriterView) → IsLaid setup → IsAtRest setup place view → IsHolding view chunk id → chunk < length setup.spots
-held_of_table setup place chunk id view laid rests holding =
-    chunk_inside setup (producer_of setup place) chunk laid (rests.begun id (Held chunk (draft_at view id)) holding)
+pub held_of_table : (setup : Setup) (place chunk position : ℕ) (view : WriterView) → IsLaid setup → IsAtRest setup place view → IsHolding view chunk position → chunk < length setup.spots
+held_of_table setup place chunk position view laid rests holding =
+    chunk_inside setup (producer_of setup place) chunk laid (rests.begun position (Held chunk (draft_at view position)) holding)
 
 -- a look leaves what was taken
 pub looked_serving : (setup : Setup) (chunk word : ℕ) (header : ChunkHeader) (mid old view : ServiceView) → mid ≡ old → IsServing setup old → LooksAt setup chunk word header mid view → IsServing setup view

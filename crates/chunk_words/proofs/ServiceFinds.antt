@@ -3,7 +3,6 @@ use Rattle.std.proofs.Common.{◌≡◌, ◌≢◌, ℕ, ◌+◌, ◌*◌, ◌/�
 use Rattle.std.specs.Int.{bit_at}
 use native.Mathlib.Decide.{ℕ_discrete}
 use mathlib.Core.Logic.{dite}
-use Rattle.trace_base.specs.declared.limits.TheConstants.{MAX_CHUNKS_PER_PAGE}
 use Rattle.page_geometry.specs.Header.{packed, unpacked}
 use Rattle.page_geometry.specs.PageBits.{HasState}
 use Rattle.page_geometry.specs.declared.chunk_header.ChunkHeader.{ChunkHeader}
@@ -42,12 +41,12 @@ stays_found word place (Reading k i m) now = record { started = λ s. absurd (bi
 
 -- ---- what a header word says of a chunk that was being written
 
--- the finished fragments of a chunk that was started, with its writer and id
+-- the finished fragments of a chunk that was started, with its writer and position
 pub record FindsStarted (setup : Setup) (world : World) (chunk header : ℕ) : Type 0 where
   pub one : Found
   pub found : IsFound one
   pub there : IsThere (writer world one.place) chunk one
-  pub is_header : IsHeader setup header one.place one.id one.head
+  pub is_header : IsHeader setup header one.place one.position one.head
   pub of_header : IsOfHeader setup (unpacked header) world.service one
 
 starts_of : (setup : Setup) (front : List ℕ) (slots : List Stored) (world : World) (chunk : ℕ) (is : Status) → IsKept setup front slots world → chunk < length setup.spots
@@ -63,7 +62,7 @@ starts_of setup front slots world chunk (Writing k i draft) kept inside was star
     let n = sealed_to draft.ends in let many = length-first_bytes (byte_at draft.words) n in
     let good = finished world k chunk i draft kept.owned at in
     record {
-      one = record { place = k; id = i; head = draft.head; ends = draft.ends; sealed = first_bytes (byte_at draft.words) n };
+      one = record { place = k; position = i; head = draft.head; ends = draft.ends; sealed = first_bytes (byte_at draft.words) n };
       found = good;
       there = record {
         entry = Held chunk draft;
@@ -74,6 +73,7 @@ starts_of setup front slots world chunk (Writing k i draft) kept inside was star
       of_header = record {
         place_is = sym (ap (λ (h : ChunkHeader). h.writer_id) reads);
         id_is = sym (ap (λ (h : ChunkHeader). h.chunk_id) reads);
+        position_fits = shows.position_fits;
         head_is = sym (ap (λ (h : ChunkHeader). let head : Head = record { count = h.count; flags = h.flags } in head) reads);
         untaken = held_untaken world k chunk i draft kept.owned at;
         finished = good;
@@ -86,7 +86,7 @@ starts_of setup front slots world chunk (Ready k i content) kept inside was star
     let whole = (kept.owned.counts k).wholes i chunk content owns.0 in
     let payload = content.image.payload in
     let n = sealed_to whole.ends in let many = length-first_bytes (byte_in payload) n in let most = whole.inside in
-    let good : IsFound (record { place = k; id = i; head = head_of content; ends = whole.ends; sealed = first_bytes (byte_in payload) n }) = record {
+    let good : IsFound (record { place = k; position = i; head = head_of content; ends = whole.ends; sealed = first_bytes (byte_in payload) n }) = record {
       sealed = record {
         count = whole.sealed.count;
         reads = reads_same (byte_in payload) (byte_in (first_bytes (byte_in payload) n)) whole.ends (λ j below. sym (first_byte (byte_in payload) n j below)) whole.sealed.reads;
@@ -94,7 +94,7 @@ starts_of setup front slots world chunk (Ready k i content) kept inside was star
       whole = many;
     } in
     record {
-      one = record { place = k; id = i; head = head_of content; ends = whole.ends; sealed = first_bytes (byte_in payload) n };
+      one = record { place = k; position = i; head = head_of content; ends = whole.ends; sealed = first_bytes (byte_in payload) n };
       found = good;
       there = record {
         entry = Completed chunk content;
@@ -105,6 +105,7 @@ starts_of setup front slots world chunk (Ready k i content) kept inside was star
       of_header = record {
         place_is = sym (ap (λ (h : ChunkHeader). h.writer_id) reads);
         id_is = sym (ap (λ (h : ChunkHeader). h.chunk_id) reads);
+        position_fits = shows.position_fits;
         head_is = sym (ap (λ (h : ChunkHeader). let head : Head = record { count = h.count; flags = h.flags } in head) reads);
         untaken = owns.1;
         finished = good;
@@ -115,25 +116,21 @@ starts_of setup front slots world chunk (Ready k i content) kept inside was star
 pub record Finds (setup : Setup) (world : World) (chunk word header : ℕ) : Type 0 where
   pub found : Option Found
   pub there : (one : Found) → found ≡ Some one → IsFound one × IsThere (writer world one.place) chunk one
-  pub written : (one : Found) → found ≡ Some one → moves.FindsWritten world word (packed (unpacked header)) one
+  pub written : (one : Found) → found ≡ Some one → moves.FindsWritten setup world chunk word (packed (unpacked header)) one
   pub says : FindsWritten setup chunk word (unpacked header) world.service found
 
 -- the word is packed from its fields
-pub packed_back : (setup : Setup) (word place id : ℕ) (head : Head) → IsHeader setup word place id head → packed (unpacked word) ≡ word
-packed_back setup word place id head is = ap packed (header_reads setup word place id head is) ∙ sym is.word_is
+pub packed_back : (setup : Setup) (word place position : ℕ) (head : Head) → IsHeader setup word place position head → packed (unpacked word) ≡ word
+packed_back setup word place position head is = ap packed (header_reads setup word place position head is) ∙ sym is.word_is
 
 -- the header word that is loaded says what the chunk is used for
-pub says_use : (setup : Setup) (header : ℕ) (is : Status) → ShowsHeader setup header is → SaysUse (packed (unpacked header)) is
+pub says_use : (setup : Setup) (header : ℕ) (is : Status) → ShowsHeader setup header is → SaysUse setup (packed (unpacked header)) is
 says_use setup header Unclaimed shows = tt
 says_use setup header (Claimed k) shows = tt
 says_use setup header (Stamped k i) shows = packed_back setup header k i no_head shows ∙ shows.word_is
 says_use setup header (Writing k i draft) shows = packed_back setup header k i draft.head shows ∙ shows.word_is
 says_use setup header (Ready k i content) shows = packed_back setup header k i (head_of content) shows ∙ shows.word_is
 says_use setup header (Reading k i content) shows = packed_back setup header k i (head_of content) shows ∙ shows.word_is
-
--- a chunk's place in its page is one of those that a page has
-pub place_inside : (setup : Setup) (chunk : ℕ) → IsLaid setup → chunk < length setup.spots → (spot setup chunk).place < MAX_CHUNKS_PER_PAGE
-place_inside setup chunk laid inside = let place = laid.place chunk inside in let most = laid.chunks chunk inside in omega (arith, place, most)
 
 pub finds_by : (setup : Setup) (front : List ℕ) (slots : List Stored) (world : World) (chunk word : ℕ) → IsLaid setup → IsKept setup front slots world → chunk < length setup.spots
     → StaysFound word (spot setup chunk).place (status world chunk) → Finds setup world chunk word (header_word setup front chunk)
@@ -147,9 +144,9 @@ finds_by setup front slots world chunk word laid kept inside stays =
     record {
       found = Some finds.one;
       there = λ one e. subst (λ (f : Found). IsFound f × IsThere (writer world f.place) chunk f) (let same : finds.one ≡ one = cc in same) (finds.found, finds.there);
-      written = λ one e. subst (moves.FindsWritten world word (packed (unpacked (header_word setup front chunk)))) (let same : finds.one ≡ one = cc in same) (record {
-        header_is = packed_back setup (header_word setup front chunk) finds.one.place finds.one.id finds.one.head finds.is_header ∙ finds.is_header.word_is;
-        written = ((spot setup chunk).place, place_inside setup chunk laid inside, written);
+      written = λ one e. subst (moves.FindsWritten setup world chunk word (packed (unpacked (header_word setup front chunk)))) (let same : finds.one ≡ one = cc in same) (record {
+        header_is = packed_back setup (header_word setup front chunk) finds.one.place finds.one.position finds.one.head finds.is_header ∙ finds.is_header.word_is;
+        written = written;
         untaken = finds.of_header.untaken;
       });
       says = record { some = λ _. (finds.one, refl, finds.of_header); none = λ no_. absurd (no_ written) };
@@ -162,7 +159,7 @@ finds_by setup front slots world chunk word laid kept inside stays =
 -- ---- what a payload word says
 
 abbrev pub watch_on : ℕ → Status → Watch
-watch_on chunk (Reading place id content) = Lifted chunk place id content
+watch_on chunk (Reading place position content) = Lifted chunk place position content
 watch_on chunk _ = Nothing
 
 watch_on_holds : (setup : Setup) (world : World) (chunk : ℕ) (is : Status) → status world chunk ≡ is → IsWatched setup world (watch_on chunk is)
@@ -176,13 +173,13 @@ watch_on_holds setup world chunk (Reading k i m) was = was
 pub watch_on_true : (setup : Setup) (world : World) (chunk : ℕ) → IsWatched setup world (watch_on chunk (status world chunk))
 watch_on_true setup world chunk = watch_on_holds setup world chunk (status world chunk) refl
 
-watch_reads : (chunk place id : ℕ) (content : Content) (is : Status) → watch_on chunk is ≡ Lifted chunk place id content → is ≡ Reading place id content
-watch_reads chunk place id content Unclaimed e = absurd cc
-watch_reads chunk place id content (Claimed k) e = absurd cc
-watch_reads chunk place id content (Stamped k i) e = absurd cc
-watch_reads chunk place id content (Writing k i d) e = absurd cc
-watch_reads chunk place id content (Ready k i m) e = absurd cc
-watch_reads chunk place id content (Reading k i m) e = cc
+watch_reads : (chunk place position : ℕ) (content : Content) (is : Status) → watch_on chunk is ≡ Lifted chunk place position content → is ≡ Reading place position content
+watch_reads chunk place position content Unclaimed e = absurd cc
+watch_reads chunk place position content (Claimed k) e = absurd cc
+watch_reads chunk place position content (Stamped k i) e = absurd cc
+watch_reads chunk place position content (Writing k i d) e = absurd cc
+watch_reads chunk place position content (Ready k i m) e = absurd cc
+watch_reads chunk place position content (Reading k i m) e = cc
 
 -- byte 8 * index + m of the words is byte m of the word with this index
 pub word_byte : (words : List ℕ) (index m : ℕ) → m < 8 → byte_at words (8 * index + m) ≡ byte_of (get_or words index 0) m
@@ -201,8 +198,8 @@ tells_of setup front slots world chunk index word before kept inside is watched 
           let has = subst (λ c. StillHas c found there.entry) about there.has in
           let as_it_was = as_found setup front slots world chunk found kept untaken there.entry there.at has in
           (found_inside setup front slots world chunk found kept untaken there.entry there.at has, λ m small below. byte m small ∙ as_it_was.bytes (8 * index + m) below);
-      stays = λ place id content same. let was : status world chunk ≡ Reading place id content = subst (λ (w : Watch). IsWatched setup world w) same watched in ap (watch_on chunk) was ∙ sym same;
-      read = λ place id content same. let was = watch_reads chunk place id content (status world chunk) same in
+      stays = λ place position content same. let was : status world chunk ≡ Reading place position content = subst (λ (w : Watch). IsWatched setup world w) same watched in ap (watch_on chunk) was ∙ sym same;
+      read = λ place position content same. let was = watch_reads chunk place position content (status world chunk) same in
           let holds : HoldsPayload (spot setup chunk).payload_size words content.image.payload = subst (λ t. ShowsWords (spot setup chunk).payload_size t words) was slot.words in
           (holds.whole, λ m small below. byte m small ∙ holds.bytes (8 * index + m) (let whole = holds.whole in omega arith));
       reading = λ has. let was = reading_of world chunk kept.owned has in

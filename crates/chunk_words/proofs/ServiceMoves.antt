@@ -7,7 +7,7 @@ use Rattle.page_geometry.specs.PageBits.{HasState, SetsState, KeepsOthers}
 use Rattle.page_geometry.specs.declared.chunk_header.ChunkHeader.{ChunkHeader}
 use Rattle.page_geometry.specs.declared.chunk_state.ChunkState.TheVariants as state
 use Rattle.commit_body.specs.declared.body.CommitBody.{CommitBody}
-use Rattle.chunk_plain.specs.Setup.{Setup, spot}
+use Rattle.chunk_plain.specs.Setup.{Setup, spot, from_of, id_at}
 use Rattle.chunk_plain.specs.Views.{At, Head, Content, asked_in, ServiceView, taken_of}
 use Rattle.chunk_plain.specs.World.{World, Status, Unclaimed, Ready, Reading, status}
 use Rattle.chunk_plain.specs.Steps.{looks_at, takes_in, served, serviced}
@@ -35,7 +35,8 @@ use Rattle.chunk_words.proofs.MailWords.{mail_apart, mail_loaded, mail_by_servic
 use Rattle.chunk_words.proofs.Turns.{served_change, serviced_change, same_service, service_turn}
 use Rattle.chunk_words.proofs.WriterMoves.{Table, front_many, page_front, page_is, chunk_inside}
 use Rattle.chunk_words.proofs.WriterEnds.{words_loaded}
-use Rattle.chunk_words.proofs.ServiceFinds.{Finds, stays_found, finds_by, packed_back, place_inside, says_use, watch_on, watch_on_true, tells_of}
+use Rattle.chunk_words.proofs.ServiceFinds.{Finds, stays_found, finds_by, packed_back, says_use, watch_on, watch_on_true, tells_of}
+use Rattle.trace_base.proofs.IdLemmas.{same_position}
 
 pub header_is : (setup : Setup) (s : Table) (r : IsShared setup s) (chunk : ℕ) → chunk < length setup.spots → get_or s.words (front_place (setup.pages + chunk)) 0 ≡ header_word setup r.front chunk
 header_is setup s r chunk inside = r.words.front_is (setup.pages + chunk) (omega arith)
@@ -91,8 +92,8 @@ module _ (setup : Setup) (count id made : ℕ) (desk : Desk) where
             (serviced_allowed setup s r id (front_place (spot setup chunk).page) made desk watch seen v r.world.service at r.kept (λ _. goes_same r.world.service) (λ i tale there true_. true_.1) (stays_found found (spot setup chunk).place (status r.world chunk) state) r.led refl),
         record {
           new_is = refl;
-          told = λ i id_ tale content there begun untaken.
-              let ready = told_ready setup r.world tale id_ chunk content r.kept.owned (f.7 i tale there) begun (subst (λ (z : ServiceView). (taken_of z tale.place).count ≤ id_) f.0 untaken) in
+          told = λ i position tale content there begun untaken.
+              let ready = told_ready setup r.world tale position chunk content r.kept.owned (f.7 i tale there) begun (subst (λ (z : ServiceView). (taken_of z tale.place).count ≤ position) f.0 untaken) in
               subst (λ t. HasState found (spot setup chunk).place (state_of t)) ready state;
         },
       )
@@ -111,11 +112,11 @@ module _ (setup : Setup) (count id made : ℕ) (desk : Desk) where
         keeps,
         tt,
         serviced_allowed setup s r id (front_place (setup.pages + chunk)) made desk watch Nothing v view at kept (λ _. goes_look r.world.service chunk word (packed (unpacked header)) finds.found)
-            (look_shows setup r.world desk chunk word (packed (unpacked header)) finds.found r.kept.owned (λ i id_ tale content there begun untaken ready.
-            let shows : IsHeader setup header tale.place id_ (head_of content)
-            = subst (λ w. IsHeader setup w tale.place id_ (head_of content)) (sym is) (subst (λ t. ShowsHeader setup (header_word setup r.front chunk) t) ready (r.kept.shown.header chunk inside)) in (
-              told i id_ tale content there begun (subst (λ (z : ServiceView). (taken_of z tale.place).count ≤ id_) (sym f.0) untaken),
-              (head_of content, subst (λ w. IsHeader setup w tale.place id_ (head_of content)) (sym (packed_back setup header tale.place id_ (head_of content) shows)) shows),
+            (look_shows setup r.world desk chunk word (packed (unpacked header)) finds.found r.kept.owned (λ i position tale content there begun untaken ready.
+            let shows : IsHeader setup header tale.place position (head_of content)
+            = subst (λ w. IsHeader setup w tale.place position (head_of content)) (sym is) (subst (λ t. ShowsHeader setup (header_word setup r.front chunk) t) ready (r.kept.shown.header chunk inside)) in (
+              told i position tale content there begun (subst (λ (z : ServiceView). (taken_of z tale.place).count ≤ position) (sym f.0) untaken),
+              (head_of content, subst (λ w. IsHeader setup w tale.place position (head_of content)) (sym (packed_back setup header tale.place position (head_of content) shows)) shows),
             ))) tt
             (led_on setup r.roll.marks r.world (serviced r.world view) (LooksMove chunk word (packed (unpacked header)) finds.found) r.led (may_look finds) refl) refl,
         record {
@@ -133,9 +134,9 @@ module _ (setup : Setup) (count id made : ℕ) (desk : Desk) where
       )
     where
       may_look : (finds : Finds setup r.world chunk word (header_word setup r.front chunk))
-          → MayLook r.world chunk word (packed (unpacked (get_or s.words (front_place (setup.pages + chunk)) 0))) finds.found
+          → MayLook setup r.world chunk word (packed (unpacked (get_or s.words (front_place (setup.pages + chunk)) 0))) finds.found
       may_look finds =
-          subst (λ (w : ℕ). MayLook r.world chunk word (packed (unpacked w)) finds.found) (sym (header_is setup s r chunk inside)) (record {
+          subst (λ (w : ℕ). MayLook setup r.world chunk word (packed (unpacked w)) finds.found) (sym (header_is setup s r chunk inside)) (record {
             there = finds.there;
             used = says_use setup (header_word setup r.front chunk) (status r.world chunk) (r.kept.shown.header chunk inside);
             says = finds.written;
@@ -176,7 +177,7 @@ module _ (setup : Setup) (count id made : ℕ) (desk : Desk) where
       )
     where
       full_header : (header : ℕ) (is : Status) → IsCompleteChunk is → ShowsHeader setup header is → HasHeader setup header is
-      full_header header (Ready place id_ content) full shows = shows
+      full_header header (Ready place position content) full shows = shows
       full_header header Unclaimed full shows = absurd full
       full_header header (Rattle.chunk_plain.specs.World.Claimed k) full shows = absurd full
       full_header header (Rattle.chunk_plain.specs.World.Stamped k i) full shows = absurd full
@@ -195,7 +196,7 @@ module _ (setup : Setup) (count id made : ℕ) (desk : Desk) where
         tt,
         subst (λ z. IsShared setup (record { words = set s.words index (get_or s.words index 0); homes = s.homes; views = set s.views id (Service 0 made desk Nothing (looks_at z chunk word (packed header) None)) })) (sym f.0)
             (serviced_allowed setup s r id index made desk watch Nothing v view at kept (λ _. goes_look r.world.service chunk word (packed header) None)
-            (look_shows setup r.world desk chunk word (packed header) None r.kept.owned (λ i id_ tale content there begun untaken ready.
+            (look_shows setup r.world desk chunk word (packed header) None r.kept.owned (λ i position tale content there begun untaken ready.
             (complete, (head_of content, subst (λ t. HasHeader setup (packed header) t) ready f.5)))) tt
             (led_on setup r.roll.marks r.world (serviced r.world view) (LooksMove chunk word (packed header) None) r.led (record {
               there = λ one e. absurd cc;
@@ -205,8 +206,8 @@ module _ (setup : Setup) (count id made : ℕ) (desk : Desk) where
         record { known = refl; serves = record { new_is = refl; seen = seen_now setup r.front r.slots (serviced r.world view) (looks_at v chunk word (packed header) None) kept (ap (λ z. looks_at z chunk word (packed header) None) (sym f.0)) } },
       )
     where
-      used_by : (is : Status) → HasHeader setup (packed header) is → SaysUse (packed header) is
-      used_by (Ready place id_ content) has = has.word_is
+      used_by : (is : Status) → HasHeader setup (packed header) is → SaysUse setup (packed header) is
+      used_by (Ready place position content) has = has.word_is
       used_by Unclaimed has = absurd has
       used_by (Rattle.chunk_plain.specs.World.Claimed k) has = absurd has
       used_by (Rattle.chunk_plain.specs.World.Stamped k i) has = absurd has
@@ -216,13 +217,13 @@ module _ (setup : Setup) (count id made : ℕ) (desk : Desk) where
   -- the status of a chunk that is known to be complete
   pub record IsKnown (world : World) (chunk header : ℕ) : Type 0 where
     pub place : ℕ
-    pub at_id : ℕ
+    pub position : ℕ
     pub content : Content
-    pub ready : status world chunk ≡ Ready place at_id content
-    pub header_is : IsHeader setup header place at_id (head_of content)
+    pub ready : status world chunk ≡ Ready place position content
+    pub header_is : IsHeader setup header place position (head_of content)
 
   shown_by : (header : ℕ) (is : Status) → HasHeader setup header is → ShowsHeader setup header is
-  shown_by header (Ready place id_ content) has = has
+  shown_by header (Ready place position content) has = has
   shown_by header Unclaimed has = absurd has
   shown_by header (Rattle.chunk_plain.specs.World.Claimed k) has = absurd has
   shown_by header (Rattle.chunk_plain.specs.World.Stamped k i) has = absurd has
@@ -230,31 +231,42 @@ module _ (setup : Setup) (count id made : ℕ) (desk : Desk) where
   shown_by header (Reading k i m) has = absurd has
 
   known_by : (world : World) (chunk header : ℕ) (is : Status) → status world chunk ≡ is → HasHeader setup header is → IsKnown world chunk header
-  known_by world chunk header (Ready place at_id content) was has = record { place = place; at_id = at_id; content = content; ready = was; header_is = has }
+  known_by world chunk header (Ready place position content) was has = record { place = place; position = position; content = content; ready = was; header_is = has }
   known_by world chunk header Unclaimed was has = absurd has
   known_by world chunk header (Rattle.chunk_plain.specs.World.Claimed k) was has = absurd has
   known_by world chunk header (Rattle.chunk_plain.specs.World.Stamped k i) was has = absurd has
   known_by world chunk header (Rattle.chunk_plain.specs.World.Writing k i d) was has = absurd has
   known_by world chunk header (Reading k i m) was has = absurd has
 
+  -- it is at the next position of its writer, where its header has that position's id
+  known_next : (world : World) (chunk header place next : ℕ) (known : IsKnown world chunk header) → known.place ≡ place → next ≤ known.position
+      → (unpacked header).chunk_id ≡ id_at setup place next → known.position ≡ next
+  known_next world chunk header place next known same above id_is =
+      let reads = header_reads setup header known.place known.position (head_of known.content) known.header_is in
+      let fits : known.position < 2 ^ 32 = known.header_is.position_fits in
+      let ids : id_at setup place known.position ≡ id_at setup place next =
+      ap (λ p. id_at setup p known.position) (sym same) ∙ (sym (ap (λ (h : ChunkHeader). h.chunk_id) reads) ∙ id_is) in
+      same_position (from_of setup place) known.position next fits (omega (arith, above, fits)) ids
+
   pub takes_allowed : (place chunk word header mask : ℕ) (v : ServiceView) → chunk < length setup.spots → place < length setup.writers
-      → HasState word (spot setup chunk).place state.Complete → (unpacked header).writer_id ≡ place + 1 → (unpacked header).chunk_id ≡ (taken_of v place).count
+      → HasState word (spot setup chunk).place state.Complete → (unpacked header).writer_id ≡ place + 1 → (unpacked header).chunk_id ≡ id_at setup place (taken_of v place).count
       → ((found : ℕ) → found < 2 ^ 64 → HasState found (spot setup chunk).place state.Complete → SetsState found (bit_and found mask) (spot setup chunk).place state.BeingRead)
       → ((found : ℕ) → KeepsOthers found (bit_and found mask) (spot setup chunk).place)
       → Allows (IsShared setup) count id (Service 0 made desk (Known chunk word header) v, []) (front_place (spot setup chunk).page) (λ found. bit_and found mask)
-      (λ _. Takes place chunk (spot setup chunk).payload_size word (unpacked header) (Service 0 made desk (Known chunk word header) v, []))
+      (λ _. Takes setup place chunk (spot setup chunk).payload_size word (unpacked header) (Service 0 made desk (Known chunk word header) v, []))
   takes_allowed place chunk word header mask v inside inside_w complete writer_is id_is sets keep s r deep at small =
       let at_ = spot setup chunk in let found = get_or s.words (front_place at_.page) 0 in let new = bit_and found mask in
       let world = r.world in let f = r.manned.each id (Service 0 made desk (Known chunk word header) v) at in
       let is = page_is setup s r chunk inside in let c_inside = chunk_inside setup s r chunk inside in
       let w_inside : place < length world.writers = let many = r.kept.writers in omega arith in
       let known = known_by world chunk header (status world chunk) refl f.5 in let content = known.content in
-      let reads = header_reads setup header known.place known.at_id (head_of content) known.header_is in
+      let reads = header_reads setup header known.place known.position (head_of content) known.header_is in
       let same_writer : known.place ≡ place = let one = ap (λ (h : ChunkHeader). h.writer_id) reads in omega arith in
       let n = (taken_of world.service place).count in
-      let fields_id : (unpacked header).chunk_id ≡ known.at_id = ap (λ (h : ChunkHeader). h.chunk_id) reads in
-      let same_id : known.at_id ≡ n = sym fields_id ∙ (id_is ∙ ap (λ (z : ServiceView). (taken_of z place).count) f.0) in
-      let ready : status world chunk ≡ Ready place n content = known.ready ∙ (ap (λ p. Ready p known.at_id content) same_writer ∙ ap (λ i. Ready place i content) same_id) in
+      let here : status world chunk ≡ Ready place known.position content = known.ready ∙ ap (λ p. Ready p known.position content) same_writer in
+      let above : n ≤ known.position = ((r.kept.owned.owns place chunk).ready_is known.position content here).1 in
+      let is_next = known_next world chunk header place n known same_writer above (id_is ∙ ap (λ (z : ServiceView). id_at setup place (taken_of z place).count) f.0) in
+      let ready : status world chunk ≡ Ready place n content = here ∙ ap (λ i. Ready place i content) is_next in
       let view = takes_in (looks_at world.service chunk word (packed (unpacked header)) None) place chunk in
       let to = Reading place n content in let next = served world view chunk to in
       let now : status next chunk ≡ to = get_or-set_same world.chunks chunk to Unclaimed c_inside in
@@ -262,21 +274,21 @@ module _ (setup : Setup) (count id made : ℕ) (desk : Desk) where
       let kept = subst (λ w. IsKept setup (set r.front at_.page (bit_and w mask)) r.slots next) (sym is)
       (take_kept setup r.front r.slots world place chunk word (packed (unpacked header)) (bit_and (page_word setup r.front chunk) mask) content r.laid r.kept inside_w inside ready
       (sets (page_word setup r.front chunk) small_page) (keep (page_word setup r.front chunk))) in
-      let slot : ShowsSlot at_.payload_size (Ready place n content) (stored_at r.slots chunk) = subst (λ t. ShowsSlot at_.payload_size t (stored_at r.slots chunk)) ready (r.kept.shown.slot chunk inside) in
+      let slot : ShowsSlot setup at_.payload_size (Ready place n content) (stored_at r.slots chunk) = subst (λ t. ShowsSlot setup at_.payload_size t (stored_at r.slots chunk)) ready (r.kept.shown.slot chunk inside) in
       let in_ : IsIn r.roll chunk = record {
         with_none = λ other out. absurd (subst (IsOf other) ready (r.manned.handed other chunk out));
         not_service = no_slot r.roll chunk f.2;
       } in
       let home = r.bodies.home_is chunk inside in_ ∙ ap (λ (b : Option CommitBody). mathlib.Core.Option.some (mathlib.Core.Option.some b)) slot.body.1 in
       let roll = with_service_hand r.roll (hand_with chunk) in
-      let i = (unpacked header).chunk_id in
-      let i_is : i ≡ n = fields_id ∙ same_id in
+      let i = (taken_of v place).count in
+      let i_is : i ≡ n = ap (λ (z : ServiceView). (taken_of z place).count) f.0 in
       let turn = service_turn setup world next r.roll s.views id 0 (hand_with chunk) made desk (Known chunk word header) (Lifted chunk place i content) v view r.manned at
       (served_change world chunk view to c_inside (λ other has. absurd (subst (IsOf other) ready has)) (omega arith))
       (λ _. goes_further world.service (looks_at world.service chunk word (packed (unpacked header)) None) view (goes_look world.service chunk word (packed (unpacked header)) None) (goes_take _ place chunk))
-      (look_shows setup world desk chunk word (packed (unpacked header)) None r.kept.owned (λ i id_ tale content_ there begun untaken ready_.
+      (look_shows setup world desk chunk word (packed (unpacked header)) None r.kept.owned (λ i position tale content_ there begun untaken ready_.
       let shows = subst (λ t. HasHeader setup header t) ready_ f.5 in
-      (complete, (head_of content_, subst (λ w. IsHeader setup w tale.place id_ (head_of content_)) (sym (packed_back setup header tale.place id_ (head_of content_) shows)) shows))))
+      (complete, (head_of content_, subst (λ w. IsHeader setup w tale.place position (head_of content_)) (sym (packed_back setup header tale.place position (head_of content_) shows)) shows))))
       (λ d e. let same : chunk ≡ d = omega arith in subst (λ c. IsRead (status next c)) same (subst IsRead (sym now) tt))
       (subst (λ j. status next chunk ≡ Reading place j content) (sym i_is) now) in
       let named = (r.kept.owned.counts place).named n chunk content ((r.kept.owned.owns place chunk).ready_is n content ready).0 in (
@@ -291,7 +303,7 @@ module _ (setup : Setup) (count id made : ℕ) (desk : Desk) where
           laid = r.laid;
           kept = kept;
           led = led_on setup r.roll.marks world next (TakesMove place chunk word (packed (unpacked header))) r.led
-              (w_inside, c_inside, (content, ready), says_use setup header (status world chunk) (shown_by header (status world chunk) f.5), (at_.place, place_inside setup chunk r.laid inside, complete))
+              (w_inside, c_inside, (content, ready), says_use setup header (status world chunk) (shown_by header (status world chunk) f.5), complete)
               (ap (λ t. served world view chunk (read_as t)) ready);
           words = words_front setup s.words r.front r.slots at_.page new (page_front setup s r chunk inside) (front_many setup s r) r.words;
           mail = mail_by_service setup world next (set s.words (front_place at_.page) new) refl refl
@@ -301,11 +313,11 @@ module _ (setup : Setup) (count id made : ℕ) (desk : Desk) where
           manned = subst (λ z. IsManned setup next roll (set s.views id (Service (hand_with chunk) made desk (Lifted chunk place i content) (takes_in (looks_at z chunk word (packed (unpacked header)) None) place chunk)))) (sym f.0) turn;
         },
         record {
-          known = ap (Known chunk word) (sym (packed_back setup header known.place known.at_id (head_of content) known.header_is));
+          known = ap (Known chunk word) (sym (packed_back setup header known.place known.position (head_of content) known.header_is));
           content = content;
           body = slot.body.0;
           with_header = record {
-            id_is = named.0 ∙ sym i_is;
+            position_is = named.0 ∙ sym i_is;
             sequence_is = named.1;
             head_is = sym (ap (λ (h : ChunkHeader). let head : Head = record { count = h.count; flags = h.flags } in head) reads);
             whole = slot.words.whole;

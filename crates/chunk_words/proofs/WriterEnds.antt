@@ -6,7 +6,7 @@ use Rattle.trace_model.specs.Calls.{Call}
 use Rattle.page_geometry.specs.PageBits.{HasState, SetsState, KeepsOthers}
 use Rattle.page_geometry.specs.declared.chunk_state.ChunkState.TheVariants as state
 use Rattle.commit_body.specs.declared.body.CommitBody.{CommitBody}
-use Rattle.chunk_plain.specs.Setup.{Setup, spot}
+use Rattle.chunk_plain.specs.Setup.{Setup, spot, from_of}
 use Rattle.chunk_plain.specs.Views.{Completed, WriterView}
 use Rattle.chunk_plain.specs.World.{Writing, Ready, status, writer}
 use Rattle.chunk_plain.specs.Steps.{completes, notes_call, moved, with_writer_view}
@@ -69,7 +69,7 @@ pub completes_allowed : (setup : Setup) (count id k chunk i mask : ℕ) (body : 
     → ((word : ℕ) → HasState word (spot setup chunk).place state.BeingWritten → SetsState word (bit_or word mask) (spot setup chunk).place state.Complete)
     → ((word : ℕ) → KeepsOthers word (bit_or word mask) (spot setup chunk).place)
     → Allows (IsShared setup) count id (Writer k (hand_with chunk) v, (chunk, Some body) ∷ []) (front_place (spot setup chunk).page) (λ found. bit_or found mask)
-    (λ _. Completes chunk i body (Writer k (hand_with chunk) v, (chunk, Some body) ∷ []))
+    (λ _. Completes setup chunk i body (Writer k (hand_with chunk) v, (chunk, Some body) ∷ []))
 completes_allowed setup count id k chunk i mask body v holding whole sets keep s r deep at small =
     let at_ = spot setup chunk in let found = get_or s.words (front_place at_.page) 0 in let new = bit_or found mask in
     let world = r.world in let f = r.manned.each id (Writer k (hand_with chunk) v) at in
@@ -78,7 +78,7 @@ completes_allowed setup count id k chunk i mask body v holding whole sets keep s
     let was = held_status setup r.front r.slots world k chunk i r.kept holding' in
     let inside = held_chunk setup r.front r.slots world k chunk i r.kept holding' in
     let c_inside = chunk_inside setup s r chunk inside in let is = page_is setup s r chunk inside in
-    let v' = writer world k in let content = content_of k i (head_at v' i) body in
+    let v' = writer world k in let content = content_of (from_of setup k) k i (head_at v' i) body in
     let view = completes v' chunk i content in let to = Ready k i content in let next = moved world k view chunk to in
     let deep_slots : length r.slots ≡ length setup.spots = r.kept.shown.slot_count in
     let slots = set r.slots chunk (record (stored_at r.slots chunk) { body = Some body }) in
@@ -87,7 +87,7 @@ completes_allowed setup count id k chunk i mask body v holding whole sets keep s
     let kept' = subst (λ w. IsKept setup (set r.front at_.page (bit_or w mask)) slots next) (sym is)
     (complete_kept setup r.front slots world k chunk i (bit_or (page_word setup r.front chunk) mask) body r.laid kept inside_w holding' here
     (subst (λ z. StandsWhole at_.payload_size z i body) f.0 whole) (sets (page_word setup r.front chunk)) (keep (page_word setup r.front chunk))) in
-    let may = may_complete at_.payload_size k i v' body (subst (λ z. StandsWhole at_.payload_size z i body) f.0 whole)
+    let may = may_complete (from_of setup k) at_.payload_size k i v' body (subst (λ z. StandsWhole at_.payload_size z i body) f.0 whole)
     (held_slot setup r.front r.slots world k chunk i r.kept holding').words.1 in
     let front = set r.front at_.page new in
     let roll = with_hand r.roll k 0 in
@@ -95,7 +95,7 @@ completes_allowed setup count id k chunk i mask body v holding whole sets keep s
     (subst (λ t. Still k t to) (sym was) (record { started = λ x. tt; full = λ x. absurd x; read = λ x. absurd x; others = λ other differs same. absurd (differs (sym same)) }))
     (stays_set v'.begun i chunk (draft_at v' i) (Completed chunk content) holding') (omega arith) in
     let turn = writer_turn setup world next r.roll s.views id k (hand_with chunk) 0 v view r.manned at change (λ d e. absurd (omega arith)) in (
-      Writer k 0 (completes v chunk i (content_of k i (head_at v i) body)),
+      Writer k 0 (completes v chunk i (content_of (from_of setup k) k i (head_at v i) body)),
       gives,
       tt,
       record {
@@ -118,7 +118,7 @@ completes_allowed setup count id k chunk i mask body v holding whole sets keep s
         bodies = bodies_back setup s.homes r.slots slots r.roll roll chunk (Some body) r.bodies inside here
             (λ d differs. body_else r.slots chunk d (Some body) differs)
             (λ d differs. in_before r.roll k 0 d (hand_else r.roll k chunk d f.2 differs));
-        manned = subst (λ z. IsManned setup next roll (set s.views id (Writer k 0 (completes z chunk i (content_of k i (head_at z i) body))))) (sym f.0) turn;
+        manned = subst (λ z. IsManned setup next roll (set s.views id (Writer k 0 (completes z chunk i (content_of (from_of setup k) k i (head_at z i) body))))) (sym f.0) turn;
       },
       refl,
     )
@@ -163,6 +163,6 @@ pub completes_by : (setup : Setup) (count id k chunk i mask : ℕ) (kept : Optio
     → ((word : ℕ) → HasState word (spot setup chunk).place state.BeingWritten → SetsState word (bit_or word mask) (spot setup chunk).place state.Complete)
     → ((word : ℕ) → KeepsOthers word (bit_or word mask) (spot setup chunk).place)
     → Allows (IsShared setup) count id (Writer k (hand_with chunk) v, (chunk, kept) ∷ []) (front_place (spot setup chunk).page) (λ found. bit_or found mask)
-    (λ _ new. IfSome kept (λ body. Completes chunk i body (Writer k (hand_with chunk) v, (chunk, kept) ∷ []) new))
+    (λ _ new. IfSome kept (λ body. Completes setup chunk i body (Writer k (hand_with chunk) v, (chunk, kept) ∷ []) new))
 completes_by setup count id k chunk i mask None v there holding whole sets keep = absurd (let no_ : false ≡ true = there in cc)
 completes_by setup count id k chunk i mask (Some body) v there holding whole sets keep = completes_allowed setup count id k chunk i mask body v holding whole sets keep

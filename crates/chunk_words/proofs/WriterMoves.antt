@@ -1,5 +1,5 @@
 -- Each step of a writer's seat keeps the rule, and tells what it does.
-use Rattle.std.proofs.Common.{◌≡◌, ◌≢◌, ℕ, ◌+◌, ◌-◌, ◌*◌, ◌<◌, ◌≤◌, ◌↔◌, ◌==◌, IsTrue, Bool, true, false, Option, Some, None, List, [], ◌∷◌, length, set, get_or, subst, sym, refl, ap, ◌∙◌, arith, bit_or, length-set}
+use Rattle.std.proofs.Common.{◌≡◌, ◌≢◌, ℕ, ◌+◌, ◌-◌, ◌*◌, ◌^◌, ◌<◌, ◌≤◌, ◌↔◌, ◌==◌, IsTrue, Bool, true, false, Option, Some, None, List, [], ◌∷◌, length, set, get_or, subst, sym, refl, ap, ◌∙◌, arith, bit_or, length-set}
 use Rattle.std.specs.Int.{bit_at}
 use Rattle.std.proofs.lemmas.List.{get_or-set_same, length-append}
 use Rattle.std.proofs.lemmas.Bool.Decides.{nat_tests}
@@ -136,9 +136,9 @@ claims_allowed setup count id k chunk mask v inside sets keep s r deep at small 
 -- ---- begin: the header, then the state
 
 pub stamps_allowed : (setup : Setup) (count id k chunk header : ℕ) (v : WriterView) → chunk < length setup.spots
-    → 0 < times chunk v.claimed → v.stamped ≡ None → IsHeader setup header k (length v.begun) no_head
+    → 0 < times chunk v.claimed → v.stamped ≡ None → length v.begun < 2 ^ 32 - 1 → IsHeader setup header k (length v.begun) no_head
     → Allows (IsShared setup) count id (Writer k 0 v, []) (front_place (setup.pages + chunk)) (λ _. header) (λ _. Stamps chunk (spot setup chunk).payload_size (Writer k 0 v, []))
-stamps_allowed setup count id k chunk header v inside mine unstamped is_header s r deep at small =
+stamps_allowed setup count id k chunk header v inside mine unstamped few is_header s r deep at small =
     let world = r.world in let f = r.manned.each id (Writer k 0 v) at in let size = (spot setup chunk).payload_size in
     let inside_w = writer_inside setup s r id k 0 v at in let w_inside = world_inside setup s r id k 0 v at in let c_inside = chunk_inside setup s r chunk inside in
     let mine' = subst (λ (z : WriterView). 0 < times chunk z.claimed) f.0 mine in
@@ -167,7 +167,7 @@ stamps_allowed setup count id k chunk header v inside mine unstamped is_header s
         roll = roll;
         laid = r.laid;
         kept = kept;
-        led = led_on setup r.roll.marks world next (StampsMove k chunk) r.led (w_inside, c_inside, mine', subst (λ (z : WriterView). z.stamped ≡ None) f.0 unstamped) refl;
+        led = led_on setup r.roll.marks world next (StampsMove k chunk) r.led (w_inside, c_inside, mine', subst (λ (z : WriterView). z.stamped ≡ None) f.0 unstamped, subst (λ (z : WriterView). length z.begun < 2 ^ 32 - 1) f.0 few) refl;
         words = words_front setup s.words r.front r.slots (setup.pages + chunk) header (omega arith) (front_many setup s r) r.words;
         mail = mail_by_writer setup world next (set s.words (front_place (setup.pages + chunk)) header) k view change
             (record { letters = refl; begun = omega arith; calls = omega arith })
@@ -180,7 +180,7 @@ stamps_allowed setup count id k chunk header v inside mine unstamped is_header s
     )
 
 pub begins_allowed : (setup : Setup) (count id k chunk mask : ℕ) (v : WriterView) → chunk < length setup.spots
-    → v.stamped ≡ Some (record { chunk = chunk; id = length v.begun })
+    → v.stamped ≡ Some (record { chunk = chunk; position = length v.begun })
     → ((word : ℕ) → HasState word (spot setup chunk).place state.Free → SetsState word (bit_or word mask) (spot setup chunk).place state.BeingWritten)
     → ((word : ℕ) → KeepsOthers word (bit_or word mask) (spot setup chunk).place)
     → Allows (IsShared setup) count id (Writer k (hand_with chunk) v, (chunk, None) ∷ []) (front_place (spot setup chunk).page) (λ found. bit_or found mask)
@@ -191,7 +191,7 @@ begins_allowed setup count id k chunk mask v inside stamped sets keep s r deep a
     let inside_w = writer_inside setup s r id k (hand_with chunk) v at in let w_inside = world_inside setup s r id k (hand_with chunk) v at in let c_inside = chunk_inside setup s r chunk inside in
     let is = page_is setup s r chunk inside in
     let v' = writer world k in let n = length v'.begun in let payload = (stored_at r.slots chunk).words in
-    let stamped' = subst (λ (z : WriterView). z.stamped ≡ Some (record { chunk = chunk; id = length z.begun })) f.0 stamped in
+    let stamped' = subst (λ (z : WriterView). z.stamped ≡ Some (record { chunk = chunk; position = length z.begun })) f.0 stamped in
     let was : status world chunk ≡ Stamped k n = (r.kept.owned.owns k chunk).stamp_is n stamped' in
     let view = begins v' chunk payload in let to = Writing k n (fresh payload) in let next = moved world k view chunk to in
     let now : status next chunk ≡ to = get_or-set_same world.chunks chunk to Unclaimed c_inside in

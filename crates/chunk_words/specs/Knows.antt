@@ -11,8 +11,8 @@ pub data Watch : Type 0 where
   Peeked : (chunk word : ℕ) → Watch
   -- by this page word the chunk was found complete, and it is, with this header word
   Known : (chunk word header : ℕ) → Watch
-  -- it is being read, of this writer and under this id, with this content
-  Lifted : (chunk place id : ℕ) → Content → Watch
+  -- it is being read, of this writer and at this position, with this content
+  Lifted : (chunk place position : ℕ) → Content → Watch
 
 -- The reading pass of a table: it isn't made, or it is with whoever reads, or the service's seat has it in the midst of a call, with this
 -- view.

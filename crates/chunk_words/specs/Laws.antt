@@ -29,7 +29,7 @@ pub record SharedOwnership (setup : Setup) (state : State (Option CommitBody) Kn
   pub bodies : HoldsBodies setup state.homes slots roll
   pub parts : Ownership setup front slots world
   -- some schedule of steps leads to the world from a table as it is made
-  pub reached : Leads (first_world setup) world
+  pub reached : Leads setup (first_world setup) world
   pub writers : (seat place hand : ℕ) (view : WriterView) → At state.views seat (Writer place hand view) → view ≡ writer world place
   pub one_seat : (seat other place hand held : ℕ) (view known : WriterView) → At state.views seat (Writer place hand view)
       → At state.views other (Writer place held known) → seat ≡ other
@@ -51,6 +51,6 @@ SharedIsOwnership = (setup : Setup) (state : State (Option CommitBody) Knows) �
 -- it told of.
 abbrev pub ToldIsTaken : Type 0
 ToldIsTaken = (setup : Setup) (view : ServiceView) (tale : Tale) (count : ℕ) → ShowsTold setup view tale
-    → ((id : ℕ) → id < length tale.begun → (chunk : ℕ) × (content : Content) × At tale.begun id (Completed chunk content))
+    → ((position : ℕ) → position < length tale.begun → (chunk : ℕ) × (content : Content) × At tale.begun position (Completed chunk content))
     → ((chunk : ℕ) (content : Content) → At tale.begun count (Completed chunk content) → PassesOver setup view tale count chunk)
     → length tale.begun ≤ count

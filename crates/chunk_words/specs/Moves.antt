@@ -12,14 +12,14 @@ use Rattle.page_geometry.specs.PageBits.{HasState}
 use Rattle.trace_base.specs.declared.limits.TheConstants.{MAX_FRAGMENTS}
 use Rattle.commit_body.specs.declared.body.CommitBody.{CommitBody}
 use Rattle.chunk_plain.specs.Payload.{byte_of, byte_in, sealed_to, StoredUpTo}
-use Rattle.chunk_plain.specs.Views.{At, Head, Draft, Content, Found, Look, Noted, Heard, asked_in, ServiceView, taken_of}
+use Rattle.chunk_plain.specs.Views.{At, Head, Draft, Content, Found, Look, Noted, Heard, asked_in, ServiceView, taken_of, WriterView}
 use Rattle.chunk_plain.specs.World.{World, writer}
 use Rattle.chunk_plain.specs.Steps.{claims, stamps, begins, redrafts, with_head, with_word, with_words, completes, notes_call, looks_at, takes_in, learns, lets_go, notes, notes_commit}
 use Rattle.chunk_plain.specs.Letters.{AreLetters, knows_request, answers_with, requests, hears_answer}
 use Rattle.chunk_plain.specs.Owned.{times, IsOwned}
 use Rattle.chunk_plain.specs.Drafts.{draft_at, head_at, ends_by, head_of}
 use Rattle.chunk_plain.specs.Shows.{IsBodyOf, content_of}
-use Rattle.chunk_plain.specs.Setup.{Setup, spot, sequence_of}
+use Rattle.chunk_plain.specs.Setup.{Setup, spot, sequence_of, from_of}
 use Rattle.chunk_plain.specs.Words.{LooksAt, call_of, event_of, committed_of}
 use Rattle.chunk_schedules.specs.Moves.{IsLastOf}
 use Rattle.chunk_words.specs.declared.moves.Move.{Move}
@@ -49,24 +49,25 @@ IsSeen view = ∥ ((world : World) × IsOwned world × (world.service ≡ view))
 abbrev pub IsWordOf : List ℕ → ℕ → ℕ → Type 0
 IsWordOf bytes index word = (m : ℕ) → m < 8 → 8 * index + m < length bytes → byte_of word m ≡ byte_in bytes (8 * index + m)
 
--- What a payload word of a chunk tells: of a chunk that was found being written, what it had finished, as long as its id isn't taken; of
--- one that is being read, its content, which the service watches from then on.
+-- What a payload word of a chunk tells: of a chunk that was found being written, what it had finished, as long as its position isn't taken;
+-- of one that is being read, its content, which the service watches from then on.
 pub record Tells (chunk index size word : ℕ) (before after : Watch) (view : ServiceView) : Type 0 where
   pub found : (n : ℕ) (look : Look) (found : Found) → At view.looks n look → look.chunk ≡ chunk → look.found ≡ Some found
-      → (taken_of view found.place).count ≤ found.id → (length found.sealed ≤ size) × IsWordOf found.sealed index word
-  pub stays : (place id : ℕ) (content : Content) → before ≡ Lifted chunk place id content → after ≡ before
-  pub read : (place id : ℕ) (content : Content) → after ≡ Lifted chunk place id content
+      → (taken_of view found.place).count ≤ found.position → (length found.sealed ≤ size) × IsWordOf found.sealed index word
+  pub stays : (place position : ℕ) (content : Content) → before ≡ Lifted chunk place position content → after ≡ before
+  pub read : (place position : ℕ) (content : Content) → after ≡ Lifted chunk place position content
       → (length content.image.payload ≡ size) × IsWordOf content.image.payload index word
-  pub reading : 0 < times chunk view.reading → ∥ ((place id : ℕ) × (content : Content) × (after ≡ Lifted chunk place id content)
-      × (id < (taken_of view place).count) × ((known : Content) → At (taken_of view place).contents id known → known ≡ content)) ∥₁
+  pub reading : 0 < times chunk view.reading → ∥ ((place position : ℕ) × (content : Content) × (after ≡ Lifted chunk place position content)
+      × (position < (taken_of view place).count) × ((known : Content) → At (taken_of view place).contents position known
+      → known ≡ content)) ∥₁
 
--- a content that was taken: of this writer and under this id, with this header and body
-pub record IsTakenWith (place id size : ℕ) (header : ChunkHeader) (content : Content) (body : CommitBody) : Type 0 where
-  pub id_is : content.image.chunk_id ≡ id
+-- a content that was taken: of this writer and at this position, with this header and body
+pub record IsTakenWith (from place position size : ℕ) (header : ChunkHeader) (content : Content) (body : CommitBody) : Type 0 where
+  pub position_is : content.image.chunk_id ≡ position
   pub sequence_is : content.image.sequence ≡ sequence_of place
   pub head_is : head_of content ≡ record { count = header.count; flags = header.flags }
   pub whole : length content.image.payload ≡ size
-  pub body_is : IsBodyOf size content body
+  pub body_is : IsBodyOf from size content body
 
 -- What each step tells of what was known and carried before it, the number that it found, and what is known and carried behind it.
 
@@ -93,9 +94,12 @@ pub record Begins (chunk size : ℕ) (me new : Mine) : Type 0 where
   pub new_is : new ≡ (by_writer 0 (λ view. begins view chunk words) me.0, [])
 
 -- a held chunk has this head
-abbrev pub SetsHeader : (chunk id : ℕ) → Head → Mine → Mine → Type 0
-SetsHeader chunk id head me new =
-    new ≡ (by_writer 0 (λ view. redrafts view chunk id (with_head (draft_at view id) head (ends_by view id head.count))) me.0, [])
+abbrev pub SetsHeader : (chunk position : ℕ) → Head → Mine → Mine → Type 0
+SetsHeader chunk position head me new =
+    new ≡ (
+      by_writer 0 (λ view. redrafts view chunk position (with_head (draft_at view position) head (ends_by view position head.count))) me.0,
+      [],
+    )
 
 -- the word keeps each byte of the fragments that are finished
 abbrev pub KeepsWord : Draft → ℕ → ℕ → Type 0
@@ -103,17 +107,17 @@ KeepsWord draft index word = (m : ℕ) → m < 8 → 8 * index + m < sealed_to d
     → byte_of word m ≡ byte_of (slice_index_or draft.words index 0) m
 
 -- a payload word of a held chunk is stored
-pub record Publishes (chunk id index word : ℕ) (me new : Mine) : Type 0 where
-  pub inside : index < length (draft_at (view_of me.0) id).words
-  pub new_is : new ≡ (by_writer 0 (λ view. redrafts view chunk id (with_word (draft_at view id) index word)) me.0, [])
+pub record Publishes (chunk position index word : ℕ) (me new : Mine) : Type 0 where
+  pub inside : index < length (draft_at (view_of me.0) position).words
+  pub new_is : new ≡ (by_writer 0 (λ view. redrafts view chunk position (with_word (draft_at view position) index word)) me.0, [])
 
 -- payload words of a held chunk were stored, from one place on up to another one
-pub record Stores (chunk id first index : ℕ) (copy : List ℕ) (me new : Mine) : Type 0 where
+pub record Stores (chunk position first index : ℕ) (copy : List ℕ) (me new : Mine) : Type 0 where
   pub words : List ℕ
-  pub stored : StoredUpTo copy first index (draft_at (view_of me.0) id).words words
-  pub before : (other : ℕ) → other < first → slice_index_or words other 0 ≡ slice_index_or (draft_at (view_of me.0) id).words other 0
-  pub behind : (other : ℕ) → index ≤ other → slice_index_or words other 0 ≡ slice_index_or (draft_at (view_of me.0) id).words other 0
-  pub new_is : new ≡ (by_writer 0 (λ view. redrafts view chunk id (with_words (draft_at view id) words)) me.0, [])
+  pub stored : StoredUpTo copy first index (draft_at (view_of me.0) position).words words
+  pub before : (other : ℕ) → other < first → slice_index_or words other 0 ≡ slice_index_or (draft_at (view_of me.0) position).words other 0
+  pub behind : (other : ℕ) → index ≤ other → slice_index_or words other 0 ≡ slice_index_or (draft_at (view_of me.0) position).words other 0
+  pub new_is : new ≡ (by_writer 0 (λ view. redrafts view chunk position (with_words (draft_at view position) words)) me.0, [])
 
 -- payload words without a byte of the range are as they were
 abbrev pub StaysOutside : (from to : ℕ) → (old new : List ℕ) → Type 0
@@ -132,9 +136,11 @@ pub record Lifts (setup : Setup) (chunk : ℕ) (me new : Mine) : Type 0 where
   pub new_is : new ≡ (by_service (hand_with chunk) Nothing (λ view. view) me.0, (chunk, body) ∷ [])
 
 -- the chunk is completed, and the slot goes back with this body
-abbrev pub Completes : (chunk id : ℕ) → CommitBody → Mine → Mine → Type 0
-Completes chunk id body me new =
-    new ≡ (by_writer 0 (λ view. completes view chunk id (content_of (place_of me.0) id (head_at view id) body)) me.0, [])
+abbrev pub Completes : Setup → (chunk position : ℕ) → CommitBody → Mine → Mine → Type 0
+Completes setup chunk position body me new =
+    let place = place_of me.0 in
+    let content = λ (view : WriterView). content_of (from_of setup place) place position (head_at view position) body in
+    new ≡ (by_writer 0 (λ view. completes view chunk position (content view)) me.0, [])
 
 -- the writer has noted the call
 abbrev pub Notes : Call → Mine → Mine → Type 0
@@ -232,14 +238,14 @@ pub record Marks (setup : Setup) (me new : Mine) : Type 0 where
   pub marked : IsMarked setup (service_of me.0) (desk_of me.0) (desk_of new.0)
   pub new_is : new ≡ (Service 0 (made_of me.0) (with_mark (desk_of me.0) marked.world) Nothing (service_of me.0), [])
 
--- The chunk is taken, whose page word and header were found: the slot is out with the service.
-pub record Takes (place chunk size word : ℕ) (header : ChunkHeader) (me new : Mine) : Type 0 where
+-- The chunk is taken, whose page word and header were found, as the next one of the writer at this place: the slot is out with the service.
+pub record Takes (setup : Setup) (place chunk size word : ℕ) (header : ChunkHeader) (me new : Mine) : Type 0 where
   pub known : watch_of me.0 ≡ Known chunk word (packed header)
   pub content : Content
   pub body : CommitBody
-  pub with_header : IsTakenWith place header.chunk_id size header content body
+  pub with_header : IsTakenWith (from_of setup place) place (taken_of (service_of me.0) place).count size header content body
   pub new_is : new ≡ (
-    by_service (hand_with chunk) (Lifted chunk place header.chunk_id content)
+    by_service (hand_with chunk) (Lifted chunk place (taken_of (service_of me.0) place).count content)
         (λ view. takes_in (looks_at view chunk word (packed header) None) place chunk) me.0,
     (chunk, Some body) ∷ [],
   )
@@ -253,11 +259,11 @@ pub record Loads (chunk index size : ℕ) (me : Mine) (found : ℕ) (new : Mine)
 -- a chunk is read on, with the content that is watched: its payload words below this one have been loaded
 pub record ReadsOn (chunk index size : ℕ) (bytes : List ℕ) (watch : Watch) (view : ServiceView) : Type 0 where
   pub place : ℕ
-  pub id : ℕ
+  pub position : ℕ
   pub content : Content
-  pub watches : watch ≡ Lifted chunk place id content
-  pub taken : id < (taken_of view place).count
-  pub known : (known : Content) → At (taken_of view place).contents id known → known ≡ content
+  pub watches : watch ≡ Lifted chunk place position content
+  pub taken : position < (taken_of view place).count
+  pub known : (known : Content) → At (taken_of view place).contents position known → known ≡ content
   pub whole : length content.image.payload ≡ size
   pub bytes_are : (j : ℕ) → j < 8 * index → j < size → byte_in bytes j ≡ byte_in content.image.payload j
 
@@ -265,9 +271,9 @@ pub record ReadsOn (chunk index size : ℕ) (bytes : List ℕ) (watch : Watch) (
 pub record LoadsUpTo (chunk index size : ℕ) (bytes : List ℕ) (me new : Mine) : Type 0 where
   pub watch : Watch
   pub new_is : new ≡ (by_service (hand_of me.0) watch (λ view. view) me.0, me.1)
-  pub stays : (place id : ℕ) (content : Content) → watch_of me.0 ≡ Lifted chunk place id content → watch ≡ watch_of me.0
+  pub stays : (place position : ℕ) (content : Content) → watch_of me.0 ≡ Lifted chunk place position content → watch ≡ watch_of me.0
   pub found : (n : ℕ) (look : Look) (found : Found) → At (service_of me.0).looks n look → look.chunk ≡ chunk → look.found ≡ Some found
-      → (taken_of (service_of me.0) found.place).count ≤ found.id → 0 < index
+      → (taken_of (service_of me.0) found.place).count ≤ found.position → 0 < index
       → (length found.sealed ≤ size) × ((j : ℕ) → j < 8 * index → j < length found.sealed → byte_in bytes j ≡ byte_in found.sealed j)
   pub reading : 0 < times chunk (service_of me.0).reading → 0 < index → ∥ ReadsOn chunk index size bytes watch (service_of me.0) ∥₁
 
@@ -283,7 +289,7 @@ pub record FindsReady (setup : Setup) (chunk writer id word : ℕ) (header : Chu
 
 -- the content that the service watches
 abbrev pub watched : Watch → Content
-watched (Lifted chunk place id content) = content
+watched (Lifted chunk place position content) = content
 watched _ = no_content
 
 -- what a seat knows behind a move that found this word
@@ -292,16 +298,16 @@ After (Ask chunk place) me found new = Asks chunk place me found new
 After (Claim chunk place) me found new = Claims chunk place me found new
 After (Stamp chunk payload_size) me found new = Stamps chunk payload_size me new
 After (Begin chunk payload_size) me found new = Begins chunk payload_size me new
-After (SetHeader chunk id count flags) me found new = SetsHeader chunk id (record { count = count; flags = flags }) me new
-After (Publish chunk id index word) me found new = Publishes chunk id index word me new
+After (SetHeader chunk position count flags) me found new = SetsHeader chunk position (record { count = count; flags = flags }) me new
+After (Publish chunk position index word) me found new = Publishes chunk position index word me new
 After (Fetch chunk) me found new = Fetches chunk me new
-After (CompleteStep chunk id) me found new = IfSome (body_in me.1) (λ body. Completes chunk id body me new)
+After (CompleteStep layout chunk position) me found new = IfSome (body_in me.1) (λ body. Completes layout.now chunk position body me new)
 After (CallStep call) me found new = Notes (call_of call) me new
 After (Peek layout chunk) me found new = Peeks layout.now chunk me found new
 After (Find layout chunk word) me found new = Looks layout.now chunk word me found new
 After (Know chunk word) me found new = ReadsHeader chunk word me found new
 After (Miss chunk word header) me found new = Misses chunk word header me new
-After (Take place chunk word header payload_size) me found new = Takes place chunk payload_size word header me new
+After (Take layout place chunk word header payload_size) me found new = Takes layout.now place chunk payload_size word header me new
 After (Load chunk index payload_size) me found new = Loads chunk index payload_size me found new
 After (Learn place) me found new = Serves (λ view. learns view place (watched (watch_of me.0))) me new
 After (Lift layout chunk) me found new = Lifts layout.now chunk me new
@@ -316,4 +322,5 @@ After (Request flush) me found new = Serves (λ view. requests view) me new
 After (NoteRequest flush) me found new = NotesRequest me new
 After (ReadAnswer place) me found new = ReadsAnswer place me found new
 After Compare me found new = Compares me new
-After (Commit header payload patches) me found new = Serves (λ view. notes_commit view (committed_of header payload.now patches.now)) me new
+After (Commit layout header payload patches) me found new =
+    Serves (λ view. notes_commit view (committed_of layout.now header payload.now patches.now)) me new

@@ -71,29 +71,29 @@ pub record HoldsBodies (setup : Setup) (homes : List (mathlib.Core.Option.Option
 -- the writer may have the slot of a chunk with this status
 abbrev pub IsOf : ℕ → Status → Type 0
 IsOf place (Claimed other) = other ≡ place
-IsOf place (Stamped other id) = other ≡ place
-IsOf place (Writing other id draft) = other ≡ place
+IsOf place (Stamped other position) = other ≡ place
+IsOf place (Writing other position draft) = other ≡ place
 IsOf place _ = ⊥
 
 -- the service may have it
 abbrev pub IsRead : Status → Type 0
-IsRead (Reading place id content) = Unit {0}
+IsRead (Reading place position content) = Unit {0}
 IsRead _ = ⊥
 
 -- a writer writes the chunk, or has completed it
 abbrev pub IsStarted : Status → Type 0
-IsStarted (Writing place id draft) = Unit {0}
-IsStarted (Ready place id content) = Unit {0}
+IsStarted (Writing place position draft) = Unit {0}
+IsStarted (Ready place position content) = Unit {0}
 IsStarted _ = ⊥
 
 -- the chunk is complete
 abbrev pub IsCompleteChunk : Status → Type 0
-IsCompleteChunk (Ready place id content) = Unit {0}
+IsCompleteChunk (Ready place position content) = Unit {0}
 IsCompleteChunk _ = ⊥
 
 -- the chunk is complete, and this is its header word
 abbrev pub HasHeader : Setup → ℕ → Status → Type 0
-HasHeader setup header (Ready place id content) = IsHeader setup header place id (head_of content)
+HasHeader setup header (Ready place position content) = IsHeader setup header place position (head_of content)
 HasHeader setup header _ = ⊥
 
 -- What a page word said of the chunk at this place is so still: one that was being written is so or is complete, and one that was complete
@@ -107,7 +107,7 @@ abbrev pub IsWatched : Setup → World → Watch → Type 0
 IsWatched setup world Nothing = Unit {0}
 IsWatched setup world (Peeked chunk word) = StaysFound word (spot setup chunk).place (status world chunk)
 IsWatched setup world (Known chunk word header) = HasHeader setup header (status world chunk)
-IsWatched setup world (Lifted chunk place id content) = status world chunk ≡ Reading place id content
+IsWatched setup world (Lifted chunk place position content) = status world chunk ≡ Reading place position content
 
 -- these are the views of the first writers, which have no slot
 pub record HasJoined (world : World) (roll : Roll) (joined : List WriterView) : Type 0 where

@@ -3,7 +3,8 @@ use chunk_plain::{Layout, ServiceEvent, WriterCall};
 use commit_body::Patch;
 use page_geometry::ChunkHeader;
 
-/// A step with all that its seat keeps of it beside what it finds.
+/// A step with all that its seat keeps of it beside what it finds. A writer's chunks go by their
+/// positions; the set-up says by which ids headers and bodies name them.
 #[derive(Clone, Copy)]
 pub enum Move<'a> {
     /// The page word is read: a claim in vain where it has the chunk's claim bit.
@@ -27,13 +28,13 @@ pub enum Move<'a> {
     },
     SetHeader {
         chunk: u32,
-        id: u32,
+        position: u32,
         count: u16,
         flags: u8,
     },
     Publish {
         chunk: u32,
-        id: u32,
+        position: u32,
         index: usize,
         word: u64,
     },
@@ -42,8 +43,9 @@ pub enum Move<'a> {
         chunk: u32,
     },
     Complete {
+        layout: &'a Layout,
         chunk: u32,
-        id: u32,
+        position: u32,
     },
     Call {
         call: WriterCall<'a>,
@@ -72,6 +74,7 @@ pub enum Move<'a> {
     },
     /// The service takes a chunk of the writer at this place.
     Take {
+        layout: &'a Layout,
         writer: u16,
         chunk: u32,
         word: u64,
@@ -111,6 +114,7 @@ pub enum Move<'a> {
         layout: &'a Layout,
     },
     Commit {
+        layout: &'a Layout,
         header: ChunkHeader,
         payload: &'a [u8],
         patches: &'a [Patch],

@@ -2,7 +2,7 @@
 ghost use Rattle.std.specs.Prelude.{◌≡◌, ℕ, ◌+◌, ◌-◌, ◌*◌, ◌/◌, ◌<◌, ◌≤◌, None, [], length, vec_len, IfOk, IfErr};
 ghost use Rattle.trace_base.specs.declared.limits.TheConstants.{MAX_FRAGMENTS};
 ghost use Rattle.page_geometry.specs.declared.chunk_header.TheConstants.{MAX_FLAGS};
-ghost use Rattle.chunk_plain.specs.Setup.{spot, id_at};
+ghost use Rattle.chunk_plain.specs.Setup.{spot, id_at, from_of};
 ghost use Rattle.chunk_plain.specs.Views.{taken_of};
 ghost use Rattle.chunk_plain.specs.Owned.{times};
 ghost use Rattle.chunk_plain.specs.Steps.{looks_at, takes_in, learns, lets_go, notes, notes_commit};
@@ -169,12 +169,13 @@ impl HostTable {
         requires watch { watch_of seat.old.seat.me.0 ≡ Known chunk word (packed header) }
         requires fields { unpacked (packed header) ≡ header }
         requires writer_is { header.writer_id ≡ writer + 1 }
-        requires next { header.chunk_id ≡ (taken_of (service_of seat.old.seat.me.0) writer).count }
+        requires next { header.chunk_id ≡ id_at self.now.layout writer (taken_of (service_of seat.old.seat.me.0) writer).count }
         ensures seat { seat.new.seat.table_id ≡ seat.old.seat.table_id }
         ensures size { vec_len result.payload ≡ (spot self.now.layout chunk).payload_size }
         ensures me { Serves
             (λ view. learns (takes_in (looks_at view chunk word (packed header) None) writer chunk) writer
-            (content_of writer header.chunk_id (record { count = header.count; flags = header.flags }) result)) seat.old.seat.me seat.new.seat.me }
+            (content_of (from_of self.now.layout writer) writer (taken_of (service_of seat.old.seat.me.0) writer).count
+            (record { count = header.count; flags = header.flags }) result)) seat.old.seat.me seat.new.seat.me }
     {
         self.step_take(seat, writer, chunk, word, header);
         let mut body = self.body_out(&mut seat.seat, chunk);
@@ -223,7 +224,7 @@ impl HostTable {
     )
         requires seat { Attends self.now seat.old }
         ensures view { service_of seat.new.seat.me.0 ≡ notes_commit (service_of
-            seat.old.seat.me.0) (committed_of header payload.now patches.now) }
+            seat.old.seat.me.0) (committed_of self.now.layout header payload.now patches.now) }
         ensures desk { desk_of seat.new.seat.me.0 ≡ desk_of seat.old.seat.me.0 }
         ensures seat { Attends self.now seat.new }
     {

@@ -3,7 +3,7 @@ ghost use Rattle.std.specs.Prelude.{◌≡◌, ℕ, ◌+◌, ◌<◌, None, leng
 ghost use Rattle.page_geometry.specs.Header.{packed, unpacked};
 ghost use Rattle.page_geometry.specs.PageBits.{HasState};
 ghost use Rattle.page_geometry.specs.declared.chunk_state.ChunkState.TheVariants.{Complete};
-ghost use Rattle.chunk_plain.specs.Setup.{spot};
+ghost use Rattle.chunk_plain.specs.Setup.{spot, id_at};
 ghost use Rattle.chunk_plain.specs.Views.{taken_of};
 ghost use Rattle.chunk_plain.specs.Owned.{times};
 ghost use Rattle.chunk_plain.specs.Steps.{learns, lets_go, notes, notes_commit};
@@ -130,12 +130,14 @@ impl HostTable {
         requires watch { watch_of seat.old.seat.me.0 ≡ Known chunk word (packed header) }
         requires fields { unpacked (packed header) ≡ header }
         requires writer_is { header.writer_id ≡ writer + 1 }
-        requires next { header.chunk_id ≡ (taken_of (service_of seat.old.seat.me.0) writer).count }
+        requires next { header.chunk_id ≡ id_at self.now.layout writer (taken_of (service_of seat.old.seat.me.0) writer).count }
         ensures seat { seat.new.seat.table_id ≡ seat.old.seat.table_id }
-        ensures me { Takes writer chunk (spot self.now.layout chunk).payload_size word header seat.old.seat.me seat.new.seat.me }
+        ensures me { Takes self.now.layout writer chunk (spot self.now.layout chunk).payload_size word header
+            seat.old.seat.me seat.new.seat.me }
     {
         let spot = self.layout.spot(chunk);
         let step = Move::Take {
+            layout: &self.layout,
             writer,
             chunk,
             word,
@@ -271,9 +273,11 @@ impl HostTable {
         requires seat { seat.old.seat.table_id ≡ self.now.table.shared.table_id }
         requires idle { IsServiceIdle seat.old.seat.me }
         ensures seat { seat.new.seat.table_id ≡ seat.old.seat.table_id }
-        ensures me { Serves (λ view. notes_commit view (committed_of header payload.now patches.now)) seat.old.seat.me seat.new.seat.me }
+        ensures me { Serves (λ view. notes_commit view (committed_of self.now.layout header payload.now patches.now))
+            seat.old.seat.me seat.new.seat.me }
     {
         let step = Move::Commit {
+            layout: &self.layout,
             header,
             payload,
             patches,

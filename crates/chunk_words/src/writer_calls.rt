@@ -2,7 +2,7 @@
 ghost use Rattle.std.specs.Prelude.{◌≡◌, ℕ, ◌+◌, ◌*◌, ◌<◌, ◌≤◌, true, false, Some, None, length, vec_len, IfSome, IfNone};
 ghost use Rattle.trace_base.specs.declared.limits.TheConstants.{MAX_FRAGMENTS};
 ghost use Rattle.page_geometry.specs.declared.chunk_header.TheConstants.{MAX_FLAGS};
-ghost use Rattle.chunk_plain.specs.declared.tokens.TheConstants.{ID_LIMIT};
+ghost use Rattle.chunk_plain.specs.declared.tokens.TheConstants.{POSITION_LIMIT};
 ghost use Rattle.chunk_plain.specs.Setup.{spot, producer_of, IsChunkOf, id_at};
 ghost use Rattle.chunk_plain.specs.Payload.{byte_of, byte_in, sealed_to, HasFragments};
 ghost use Rattle.chunk_plain.specs.Drafts.{MayFollow, draft_at, head_at, published, ends_by, IsHolding};
@@ -46,65 +46,78 @@ impl HostTable {
         }
     }
 
-    /// The header of the chunk is stored with count 0, and then its state is set.
+    /// The header of the chunk is stored with this id, that of the writer's next position, and with
+    /// count 0; and then its state is set.
     pub fn begin(&self, seat: &mut WriterSeat, claimed: Claimed, id: u32) -> Held
         requires seat { Sits self.now seat.old }
         requires claimed { HasClaimed (view_of seat.old.seat.me.0) claimed.chunk }
         requires id { id ≡ id_at self.now.layout seat.old.place (length (view_of seat.old.seat.me.0).begun) }
-        requires id_fits { id < ID_LIMIT }
-        ensures held { IsBegun self.now.layout claimed.chunk id result }
+        requires few_begun { length (view_of seat.old.seat.me.0).begun < POSITION_LIMIT }
+        ensures held { IsBegun self.now.layout claimed.chunk (length (view_of seat.old.seat.me.0).begun) result }
         ensures view { BeginsChunk self.now.layout claimed.chunk (view_of seat.old.seat.me.0) (view_of seat.new.seat.me.0) }
         ensures seat { Sits self.now seat.new }
         ensures place { seat.new.place ≡ seat.old.place }
     {
         let Claimed { chunk } = claimed;
+        let position = self.layout.position_at(seat.place, id);
         self.step_stamp(seat, chunk, id);
         let mut body = self.body_out(&mut seat.seat, chunk);
         self.step_begin(seat, chunk);
         body.patches.clear();
-        Held { chunk, id, body }
+        Held {
+            chunk,
+            position,
+            body,
+        }
     }
 
     /// Stores the header of a held chunk.
     pub fn set_header(&self, seat: &mut WriterSeat, held: &mut Held, count: u16, flags: u8)
         requires seat { Sits self.now seat.old }
-        requires held { IsHolding (view_of seat.old.seat.me.0) held.old.chunk held.old.id }
+        requires held { IsHolding (view_of seat.old.seat.me.0) held.old.chunk held.old.position }
         requires count_fits { count ≤ MAX_FRAGMENTS }
         requires flags_fit { flags ≤ MAX_FLAGS }
-        requires follows { MayFollow (head_at (view_of seat.old.seat.me.0) held.old.id) (record { count = count; flags = flags }) }
-        requires reads { HasFragments (published (view_of seat.old.seat.me.0) held.old.id)
-            (ends_by (view_of seat.old.seat.me.0) held.old.id count) }
-        requires inside { sealed_to (ends_by (view_of seat.old.seat.me.0) held.old.id count)
+        requires follows { MayFollow (head_at (view_of seat.old.seat.me.0) held.old.position) (record { count = count; flags = flags }) }
+        requires reads { HasFragments (published (view_of seat.old.seat.me.0) held.old.position)
+            (ends_by (view_of seat.old.seat.me.0) held.old.position count) }
+        requires inside { sealed_to (ends_by (view_of seat.old.seat.me.0) held.old.position count)
             ≤ (spot self.now.layout held.old.chunk).payload_size }
         ensures held { held.new ≡ held.old }
-        ensures view { view_of seat.new.seat.me.0 ≡ redrafts (view_of seat.old.seat.me.0) held.old.chunk held.old.id
-            (with_head (draft_at (view_of seat.old.seat.me.0) held.old.id) (record { count = count; flags = flags })
-            (ends_by (view_of seat.old.seat.me.0) held.old.id count)) }
+        ensures view { view_of seat.new.seat.me.0 ≡ redrafts (view_of seat.old.seat.me.0) held.old.chunk held.old.position
+            (with_head (draft_at (view_of seat.old.seat.me.0) held.old.position) (record { count = count; flags = flags })
+            (ends_by (view_of seat.old.seat.me.0) held.old.position count)) }
         ensures seat { Sits self.now seat.new }
         ensures place { seat.new.place ≡ seat.old.place }
     {
-        self.step_header(seat, held.chunk, held.id, count, flags);
+        self.step_header(seat, held.chunk, held.position, count, flags);
     }
 
     /// Stores each payload word that has a byte of this range of the held payload.
     pub fn publish(&self, seat: &mut WriterSeat, held: &mut Held, from: u32, to: u32)
         requires seat { Sits self.now seat.old }
-        requires held { IsHolding (view_of seat.old.seat.me.0) held.old.chunk held.old.id }
+        requires held { IsHolding (view_of seat.old.seat.me.0) held.old.chunk held.old.position }
         requires size { vec_len held.old.body.payload ≡ (spot self.now.layout held.old.chunk).payload_size }
         requires order { from ≤ to }
         requires inside { to ≤ (spot self.now.layout held.old.chunk).payload_size }
-        requires kept { KeepsSealed (view_of seat.old.seat.me.0) held.old.id held.old.body.payload.items }
+        requires kept { KeepsSealed (view_of seat.old.seat.me.0) held.old.position held.old.body.payload.items }
         ensures held { held.new ≡ held.old }
-        ensures view { PublishesBytes held.old.chunk held.old.id from to held.old.body.payload.items
+        ensures view { PublishesBytes held.old.chunk held.old.position from to held.old.body.payload.items
             (view_of seat.old.seat.me.0) (view_of seat.new.seat.me.0) }
-        ensures others { StaysOutside from to (draft_at (view_of seat.old.seat.me.0) held.old.id).words
-            (draft_at (view_of seat.new.seat.me.0) held.old.id).words }
+        ensures others { StaysOutside from to (draft_at (view_of seat.old.seat.me.0) held.old.position).words
+            (draft_at (view_of seat.new.seat.me.0) held.old.position).words }
         ensures seat { Sits self.now seat.new }
         ensures place { seat.new.place ≡ seat.old.place }
     {
         let first = from as usize / 8;
         let end = word_end(from, to);
-        self.store_words(seat, held.chunk, held.id, first, end, &held.body.payload);
+        self.store_words(
+            seat,
+            held.chunk,
+            held.position,
+            first,
+            end,
+            &held.body.payload,
+        );
     }
 
     /// Stores the payload words of a held chunk from one place on, up to another one: a step for each.
@@ -112,7 +125,7 @@ impl HostTable {
         &self,
         seat: &mut WriterSeat,
         chunk: u32,
-        id: u32,
+        position: u32,
         first: usize,
         end: usize,
         copy: &[u8],
@@ -120,44 +133,48 @@ impl HostTable {
         requires seat { seat.old.seat.table_id ≡ self.now.table.shared.table_id }
         requires idle { IsIdle seat.old.place seat.old.seat.me }
         requires chunk { chunk < length self.now.layout.spots }
-        requires held { IsHolding (view_of seat.old.seat.me.0) chunk id }
+        requires held { IsHolding (view_of seat.old.seat.me.0) chunk position }
         requires size { length copy.now ≡ (spot self.now.layout chunk).payload_size }
         requires order { first ≤ end }
         requires inside { 8 * end < length copy.now + 8 }
-        requires kept { KeepsSealed (view_of seat.old.seat.me.0) id copy.now }
+        requires kept { KeepsSealed (view_of seat.old.seat.me.0) position copy.now }
         ensures seat { seat.new.seat.table_id ≡ seat.old.seat.table_id }
         ensures place { seat.new.place ≡ seat.old.place }
-        ensures me { Stores chunk id first end copy.now seat.old.seat.me seat.new.seat.me }
+        ensures me { Stores chunk position first end copy.now seat.old.seat.me seat.new.seat.me }
     {
         // Behind an atomic step all is read anew: so the loop reads no more than it has to.
         let start = self.first_index(chunk);
         let whole = end.min(copy.len() / 8).max(first);
         for index in first..whole {
             let word = whole_word(copy, index);
-            self.step_publish(seat, chunk, id, start, index, word);
+            self.step_publish(seat, chunk, position, start, index, word);
         }
         // The last word may have fewer bytes than eight.
         if whole < end {
             let word = pack(copy, 8 * whole);
-            self.step_publish(seat, chunk, id, start, whole, word);
+            self.step_publish(seat, chunk, position, start, whole, word);
         }
     }
 
     /// The body goes back into its slot, and then the state is set.
     pub fn complete(&self, seat: &mut WriterSeat, held: Held)
         requires seat { Sits self.now seat.old }
-        requires held { IsHolding (view_of seat.old.seat.me.0) held.chunk held.id }
+        requires held { IsHolding (view_of seat.old.seat.me.0) held.chunk held.position }
         requires size { vec_len held.body.payload ≡ (spot self.now.layout held.chunk).payload_size }
-        requires published { IsPublished (view_of seat.old.seat.me.0) held.id held.body.payload.items }
-        ensures view { view_of seat.new.seat.me.0 ≡ completes (view_of seat.old.seat.me.0) held.chunk held.id
-            (completed_content seat.old.place (view_of seat.old.seat.me.0) held) }
+        requires published { IsPublished (view_of seat.old.seat.me.0) held.position held.body.payload.items }
+        ensures view { view_of seat.new.seat.me.0 ≡ completes (view_of seat.old.seat.me.0) held.chunk held.position
+            (completed_content self.now.layout seat.old.place (view_of seat.old.seat.me.0) held) }
         ensures seat { Sits self.now seat.new }
         ensures place { seat.new.place ≡ seat.old.place }
     {
-        let Held { chunk, id, body } = held;
-        self.step_fetch(seat, chunk, id);
+        let Held {
+            chunk,
+            position,
+            body,
+        } = held;
+        self.step_fetch(seat, chunk, position);
         self.body_in(&mut seat.seat, chunk, body);
-        self.step_complete(seat, chunk, id);
+        self.step_complete(seat, chunk, position);
     }
 
     /// The call joins the view.

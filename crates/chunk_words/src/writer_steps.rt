@@ -2,8 +2,8 @@
 ghost use Rattle.std.specs.Prelude.{◌≡◌, ℕ, ◌+◌, ◌*◌, ◌<◌, ◌≤◌, Some, None, [], ◌∷◌, length, vec_len, IsSome, IfSome};
 ghost use Rattle.trace_base.specs.declared.limits.TheConstants.{MAX_FRAGMENTS};
 ghost use Rattle.page_geometry.specs.declared.chunk_header.TheConstants.{MAX_FLAGS};
-ghost use Rattle.chunk_plain.specs.declared.tokens.TheConstants.{ID_LIMIT};
-ghost use Rattle.chunk_plain.specs.Setup.{spot};
+ghost use Rattle.chunk_plain.specs.declared.tokens.TheConstants.{POSITION_LIMIT};
+ghost use Rattle.chunk_plain.specs.Setup.{spot, id_at};
 ghost use Rattle.chunk_plain.specs.Payload.{sealed_to, HasFragments};
 ghost use Rattle.chunk_plain.specs.Drafts.{MayFollow, draft_at, head_at, published, ends_by, IsHolding};
 ghost use Rattle.chunk_plain.specs.Plain.{StandsWhole};
@@ -74,8 +74,8 @@ impl HostTable {
         requires chunk { chunk < length self.now.layout.spots }
         requires claimed { HasClaimed (view_of seat.old.seat.me.0) chunk }
         requires unstamped { (view_of seat.old.seat.me.0).stamped ≡ None }
-        requires id { id ≡ length (view_of seat.old.seat.me.0).begun }
-        requires id_fits { id < ID_LIMIT }
+        requires id { id ≡ id_at self.now.layout seat.old.place (length (view_of seat.old.seat.me.0).begun) }
+        requires few_begun { length (view_of seat.old.seat.me.0).begun < POSITION_LIMIT }
         ensures seat { seat.new.seat.table_id ≡ seat.old.seat.table_id }
         ensures place { seat.new.place ≡ seat.old.place }
         ensures me { Stamps chunk (spot self.now.layout chunk).payload_size seat.old.seat.me seat.new.seat.me }
@@ -108,7 +108,7 @@ impl HostTable {
         requires chunk { chunk < length self.now.layout.spots }
         requires stamped { (view_of seat.old.seat.me.0).stamped ≡ Some (record {
           chunk = chunk;
-          id = length (view_of
+          position = length (view_of
               seat.old.seat.me.0).begun;
         }) }
         ensures seat { seat.new.seat.table_id ≡ seat.old.seat.table_id }
@@ -135,7 +135,7 @@ impl HostTable {
         &self,
         seat: &mut WriterSeat,
         chunk: u32,
-        id: u32,
+        position: u32,
         count: u16,
         flags: u8,
     )
@@ -143,25 +143,26 @@ impl HostTable {
         requires idle { IsIdle seat.old.place seat.old.seat.me }
         requires place { seat.old.place < length self.now.layout.writers }
         requires chunk { chunk < length self.now.layout.spots }
-        requires held { IsHolding (view_of seat.old.seat.me.0) chunk id }
+        requires held { IsHolding (view_of seat.old.seat.me.0) chunk position }
         requires count_fits { count ≤ MAX_FRAGMENTS }
         requires flags_fit { flags ≤ MAX_FLAGS }
-        requires follows { MayFollow (head_at (view_of seat.old.seat.me.0) id) (record { count = count; flags = flags }) }
-        requires reads { HasFragments (published (view_of seat.old.seat.me.0) id) (ends_by (view_of seat.old.seat.me.0) id count) }
-        requires inside { sealed_to (ends_by (view_of seat.old.seat.me.0) id count) ≤ (spot self.now.layout chunk).payload_size }
+        requires follows { MayFollow (head_at (view_of seat.old.seat.me.0) position) (record { count = count; flags = flags }) }
+        requires reads { HasFragments (published (view_of seat.old.seat.me.0) position)
+            (ends_by (view_of seat.old.seat.me.0) position count) }
+        requires inside { sealed_to (ends_by (view_of seat.old.seat.me.0) position count) ≤ (spot self.now.layout chunk).payload_size }
         ensures seat { seat.new.seat.table_id ≡ seat.old.seat.table_id }
         ensures place { seat.new.place ≡ seat.old.place }
-        ensures me { SetsHeader chunk id (record { count = count; flags = flags }) seat.old.seat.me seat.new.seat.me }
+        ensures me { SetsHeader chunk position (record { count = count; flags = flags }) seat.old.seat.me seat.new.seat.me }
     {
         let header = ChunkHeader {
-            chunk_id: id,
+            chunk_id: self.layout.id_at(seat.place, position),
             writer_id: seat.place + 1,
             count,
             flags,
         };
         let step = Move::SetHeader {
             chunk,
-            id,
+            position,
             count,
             flags,
         };
@@ -180,7 +181,7 @@ impl HostTable {
         &self,
         seat: &mut WriterSeat,
         chunk: u32,
-        id: u32,
+        position: u32,
         start: usize,
         index: usize,
         word: u64,
@@ -189,16 +190,16 @@ impl HostTable {
         requires idle { IsIdle seat.old.place seat.old.seat.me }
         requires chunk { chunk < length self.now.layout.spots }
         requires start { start ≡ payload_start self.now.layout chunk }
-        requires held { IsHolding (view_of seat.old.seat.me.0) chunk id }
+        requires held { IsHolding (view_of seat.old.seat.me.0) chunk position }
         requires index { index < payload_words self.now.layout chunk }
-        requires kept { KeepsWord (draft_at (view_of seat.old.seat.me.0) id) index word }
+        requires kept { KeepsWord (draft_at (view_of seat.old.seat.me.0) position) index word }
         ensures seat { seat.new.seat.table_id ≡ seat.old.seat.table_id }
         ensures place { seat.new.place ≡ seat.old.place }
-        ensures me { Publishes chunk id index word seat.old.seat.me seat.new.seat.me }
+        ensures me { Publishes chunk position index word seat.old.seat.me seat.new.seat.me }
     {
         let step = Move::Publish {
             chunk,
-            id,
+            position,
             index,
             word,
         };
@@ -213,16 +214,16 @@ impl HostTable {
     }
 
     /// Takes the slot of a held chunk.
-    pub(crate) fn step_fetch(&self, seat: &mut WriterSeat, chunk: u32, id: u32)
+    pub(crate) fn step_fetch(&self, seat: &mut WriterSeat, chunk: u32, position: u32)
         requires seat { seat.old.seat.table_id ≡ self.now.table.shared.table_id }
         requires idle { IsIdle seat.old.place seat.old.seat.me }
         requires chunk { chunk < length self.now.layout.spots }
-        requires held { IsHolding (view_of seat.old.seat.me.0) chunk id }
+        requires held { IsHolding (view_of seat.old.seat.me.0) chunk position }
         ensures seat { seat.new.seat.table_id ≡ seat.old.seat.table_id }
         ensures place { seat.new.place ≡ seat.old.place }
         ensures me { Fetches chunk seat.old.seat.me seat.new.seat.me }
     {
-        let _ = id;
+        let _ = position;
         let table = &self.table;
         make_load(
             &table.shared,
@@ -233,17 +234,18 @@ impl HostTable {
     }
 
     /// Completes a chunk whose slot is out with its body in it, and puts the slot back.
-    pub(crate) fn step_complete(&self, seat: &mut WriterSeat, chunk: u32, id: u32)
+    pub(crate) fn step_complete(&self, seat: &mut WriterSeat, chunk: u32, position: u32)
         requires seat { seat.old.seat.table_id ≡ self.now.table.shared.table_id }
         requires chunk { chunk < length self.now.layout.spots }
-        requires held { IsHolding (view_of seat.old.seat.me.0) chunk id }
+        requires held { IsHolding (view_of seat.old.seat.me.0) chunk position }
         requires body { IsSome (body_in seat.old.seat.me.1) }
         requires out { HasOut seat.old.place chunk (body_in seat.old.seat.me.1) seat.old.seat.me }
         requires whole { IfSome (body_in seat.old.seat.me.1) (λ body. StandsWhole (spot self.now.layout chunk).payload_size (view_of
-            seat.old.seat.me.0) id body) }
+            seat.old.seat.me.0) position body) }
         ensures seat { seat.new.seat.table_id ≡ seat.old.seat.table_id }
         ensures place { seat.new.place ≡ seat.old.place }
-        ensures me { IfSome (body_in seat.old.seat.me.1) (λ body. Completes chunk id body seat.old.seat.me seat.new.seat.me) }
+        ensures me { IfSome (body_in seat.old.seat.me.1) (λ body. Completes self.now.layout chunk position body
+            seat.old.seat.me seat.new.seat.me) }
     {
         let spot = self.layout.spot(chunk);
         let table = &self.table;
@@ -252,7 +254,11 @@ impl HostTable {
             &mut seat.seat,
             self.page_index(spot.page),
             complete_mask(spot.place),
-            &Move::Complete { chunk, id },
+            &Move::Complete {
+                layout: &self.layout,
+                chunk,
+                position,
+            },
         );
     }
 

@@ -1,6 +1,6 @@
 //! The writer of a thread, over the table that threads share.
 ghost use Rattle.std.specs.Prelude.{◌≡◌, ℕ, ◌+◌, ◌-◌, ◌<◌, ◌≤◌, Bool, true, false, Some, None, [], ◌∷◌, length, slice_get, IfOk};
-ghost use Rattle.chunk_plain.specs.declared.tokens.TheConstants.{ID_LIMIT};
+ghost use Rattle.chunk_plain.specs.declared.tokens.TheConstants.{POSITION_LIMIT};
 ghost use Rattle.trace_base.specs.declared.limits.TheConstants.{MAX_FIELD, MAX_INPUT};
 ghost use Rattle.page_geometry.specs.Sizes.{payload_size};
 ghost use Rattle.trace_model.specs.Calls as call;
@@ -88,7 +88,7 @@ impl TraceWriter {
         requires writes { Writes table.now self.old }
         requires help { H.of_table help.old.help (identity_of table.now) }
         requires none_begun { in_packet (view_in self.old) ≡ false }
-        requires ids { length (view_in self.old).begun + PACKET_IDS ≤ ID_LIMIT }
+        requires ids { length (view_in self.old).begun + PACKET_IDS ≤ POSITION_LIMIT }
         ensures writes { Writes table.now self.new }
         ensures help { H.of_table help.new.help (identity_of table.now) }
         ensures call { IsCall H.helps H.of_table (lent table.entry) (core_of self.old) (core_of self.new)
@@ -297,7 +297,7 @@ impl TraceWriter {
 
     /// Chunk ids that are left.
     pub fn ids_left(&self) -> u64
-        ensures { (table : HostTable) → Writes table self.now → result ≡ ID_LIMIT - length (view_in self.now).begun }
+        ensures { (table : HostTable) → Writes table self.now → result ≡ POSITION_LIMIT - length (view_in self.now).begun }
     {
         self.core.ids_left()
     }

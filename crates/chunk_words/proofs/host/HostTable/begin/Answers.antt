@@ -1,10 +1,26 @@
-use Rattle.std.proofs.Common.{◌∙◌, [], ap}
+use Rattle.std.proofs.Common.{◌≡◌, ◌∙◌, Some, [], length, vec_len, refl, sym, ap, arith}
+use Rattle.commit_body.specs.declared.body.CommitBody.{CommitBody}
 use Rattle.chunk_plain.specs.Steps.{stamps, begins}
+use Rattle.chunk_plain.proofs.Holding.{begun_at}
 use Rattle.chunk_plain.proofs.Resting.{begins_rest}
 use Rattle.chunk_words.specs.Knows.{Knows, view_of, by_writer}
-use Rattle.chunk_words.specs.Moves.{Mine}
+use Rattle.chunk_words.specs.Moves.{Mine, body_in}
 use Rattle.chunk_words.proofs.Rests.{sits_now}
 use Rattle.chunk_words.proofs.host.HostTable.begin.Goals as goal
+
+pub returns-clause-held : goal.returns-clause-held
+returns-clause-held c =
+    let self = c.args.self.now in let seat = c.args.seat.now in let stamps_it = c.step_stamp.ensures.me in let body = c.body_out-body.result in
+    record {
+      chunk_is = refl;
+      position_is = begun_at self.layout seat.place (length (view_of seat.seat.me.0).begun) c.args.id c.position_at-position.result c.requires.id
+          (let few = c.requires.few_begun in omega (arith, few)) c.position_at-position.ensures;
+      whole =
+          let there : Some stamps_it.body ≡ Some body = sym (ap (λ (m : Mine). body_in m.1) stamps_it.new_is) ∙ c.body_out-body.ensures.body in
+          let same : stamps_it.body ≡ body = cc in
+          ap (λ (b : CommitBody). vec_len b.payload) (sym same) ∙ stamps_it.whole;
+      empty = c.clear.ensures;
+    }
 
 pub returns-clause-seat : goal.returns-clause-seat
 returns-clause-seat c =

@@ -10,12 +10,12 @@ use Rattle.chunk_words.proofs.host.HostTable.set_header.Goals as goal
 pub step_header-requires-clause-chunk : goal.step_header-requires-clause-chunk
 step_header-requires-clause-chunk c =
     let self = c.args.self.now in let seat = c.args.seat.now in
-    held_of_table self.layout seat.place c.args.held.now.chunk c.args.held.now.id (view_of seat.seat.me.0) self.laid c.requires.seat.rests.rests c.requires.held
+    held_of_table self.layout seat.place c.args.held.now.chunk c.args.held.now.position (view_of seat.seat.me.0) self.laid c.requires.seat.rests.rests c.requires.held
 
 pub returns-clause-seat : goal.returns-clause-seat
 returns-clause-seat c =
-    let self = c.args.self.now in let seat = c.args.seat.now in let chunk = c.args.held.now.chunk in let id = c.args.held.now.id in
+    let self = c.args.self.now in let seat = c.args.seat.now in let chunk = c.args.held.now.chunk in let position = c.args.held.now.position in
     let view = view_of seat.seat.me.0 in let head : Head = record { count = c.args.count; flags = c.args.flags } in
-    let draft = with_head (draft_at view id) head (ends_by view id c.args.count) in
-    sits_now self seat c.step_header.new.seat (redrafts view chunk id draft) c.requires.seat c.step_header.ensures.seat c.step_header.ensures.place c.step_header.ensures.me
-    (entry_rest self.layout seat.place view c.requires.seat.rests.rests chunk id (Held chunk draft) c.requires.held refl)
+    let draft = with_head (draft_at view position) head (ends_by view position c.args.count) in
+    sits_now self seat c.step_header.new.seat (redrafts view chunk position draft) c.requires.seat c.step_header.ensures.seat c.step_header.ensures.place c.step_header.ensures.me
+    (entry_rest self.layout seat.place view c.requires.seat.rests.rests chunk position (Held chunk draft) c.requires.held refl)

@@ -6,4 +6,4 @@ pub make_load-requires-clause-allowed : goal.make_load-requires-clause-allowed
 make_load-requires-clause-allowed c =
     let self = c.args.self.now in let seat = c.args.seat.now in
     rw (self.key, c.requires.idle)
-    (fetches_allowed self.layout _ seat.seat.id seat.place c.args.chunk c.args.id _ (view_of seat.seat.me.0) c.requires.held)
+    (fetches_allowed self.layout _ seat.seat.id seat.place c.args.chunk c.args.position _ (view_of seat.seat.me.0) c.requires.held)

@@ -1,4 +1,6 @@
-use Rattle.std.proofs.Common.{arith}
+use Rattle.std.proofs.Common.{◌+◌, ◌∙◌, ap, arith}
+use Rattle.page_geometry.specs.declared.chunk_header.ChunkHeader.{ChunkHeader}
+use Rattle.page_geometry.specs.Header.{packed}
 use Rattle.chunk_plain.specs.Views.{Head}
 use Rattle.chunk_plain.specs.Shows.{IsHeader}
 use Rattle.chunk_words.specs.Knows.{view_of}
@@ -9,12 +11,13 @@ pub make_store-requires-clause-allowed : goal.make_store-requires-clause-allowed
 make_store-requires-clause-allowed c =
     let self = c.args.self.now in let seat = c.args.seat.now in
     let head : Head = record { count = c.args.count; flags = c.args.flags } in
-    let is : IsHeader self.layout c.pack.result seat.place c.args.id head = record {
-      word_is = c.pack.ensures.word;
-      id_fits = let fits = c.ranges.id.fits in omega arith;
+    let is : IsHeader self.layout c.pack.result seat.place c.args.position head = record {
+      word_is = c.pack.ensures.word
+          ∙ ap (λ (i : _). let h : ChunkHeader = record { chunk_id = i; writer_id = seat.place + 1; count = c.args.count; flags = c.args.flags } in packed h) c.id_at.ensures;
+      position_fits = let fits = c.ranges.position.fits in omega arith;
       writer_fits = let few = self.few_writers in let inside = c.requires.place in omega arith;
       count_fits = let fits = c.requires.count_fits in omega arith;
       flags_fit = let fits = c.requires.flags_fit in omega arith;
     } in
     rw (self.key, c.header_index.ensures.here, c.requires.idle)
-    (heads_allowed self.layout _ seat.seat.id seat.place c.args.chunk c.args.id c.pack.result head (view_of seat.seat.me.0) c.requires.held is c.requires.follows c.requires.reads c.requires.inside)
+    (heads_allowed self.layout _ seat.seat.id seat.place c.args.chunk c.args.position c.pack.result head (view_of seat.seat.me.0) c.requires.held is c.requires.follows c.requires.reads c.requires.inside)

@@ -23,4 +23,4 @@ make_and-requires-clause-allowed c =
     (subst (λ (s : Spot). (found : _) → KeepsOthers found (bit_and found mask) s.place) c.spot-spot.ensures.spot c.take_mask.ensures.others) in
     rw (self.key, c.page_index.ensures.here, c.spot-spot.ensures.spot, c.requires.idle, c.requires.watch)
     (subst (λ (h : ChunkHeader). Allows (IsShared self.layout) self.table.shared.table_id.slots seat.id (Service 0 (made_of k) (desk_of k) (Known c.args.chunk c.args.word (packed header)) (service_of k), []) (front_place (spot self.layout c.args.chunk).page)
-    (λ found. bit_and found mask) (λ _. Takes c.args.writer c.args.chunk (spot self.layout c.args.chunk).payload_size c.args.word h (Service 0 (made_of k) (desk_of k) (Known c.args.chunk c.args.word (packed header)) (service_of k), []))) fields fact)
+    (λ found. bit_and found mask) (λ _. Takes self.layout c.args.writer c.args.chunk (spot self.layout c.args.chunk).payload_size c.args.word h (Service 0 (made_of k) (desk_of k) (Known c.args.chunk c.args.word (packed header)) (service_of k), []))) fields fact)

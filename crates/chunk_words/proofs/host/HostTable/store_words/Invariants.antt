@@ -7,5 +7,5 @@ abbrev pub invariant-loop-index : goal.invariant-loop-index
 invariant-loop-index l = record {
   seat : l.seat.seat.table_id ≡ l.fn.seat.seat.table_id;
   place : l.seat.place ≡ l.fn.seat.place;
-  stores : Stores l.chunk l.id l.first l.index l.copy l.fn.seat.seat.me l.seat.seat.me;
+  stores : Stores l.chunk l.position l.first l.index l.copy l.fn.seat.seat.me l.seat.seat.me;
 }

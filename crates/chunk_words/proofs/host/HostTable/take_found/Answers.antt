@@ -13,6 +13,6 @@ returns-clause-me c =
     let full : CommitBody = record { payload = with_items taken.payload bytes; patches = taken.patches; target = taken.target } in
     let many = c.load_words.ensures.size ∙ c.deref_mut.ensures.len in
     let some : 0 < size = let least = self.laid.least chunk c.requires.chunk in omega arith in
-    take_done c.args.writer chunk size c.args.word c.args.header c.args.seat.now.seat.me c.step_take.new.seat.seat.me c.body_out-body.new.seat.me c.load_words.new.seat.seat.me taken full bytes
+    take_done self.layout c.args.writer chunk size c.args.word c.args.header c.args.seat.now.seat.me c.step_take.new.seat.seat.me c.body_out-body.new.seat.me c.load_words.new.seat.seat.me taken full bytes
     c.step_take.ensures.me c.body_out-body.ensures.body c.body_out-body.ensures.me c.load_words.ensures.me many some (with_items_is taken.payload bytes many) refl refl
     c.step_learn.new.seat.seat.me c.step_learn.ensures.me
