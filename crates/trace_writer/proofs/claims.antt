@@ -7,6 +7,7 @@ pub mod Losses
 pub mod QuietRows
 pub mod QuietSteps
 pub mod Rounds
+pub mod RouteIds
 pub mod Trying
 pub mod VainRounds
 pub mod Working

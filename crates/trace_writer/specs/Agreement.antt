@@ -42,11 +42,11 @@ pub record IsThrownAway (site : Site) (account : Account) (view : WriterView) (p
 
 -- the state of a writer is the one that its account, its view and its patches say
 abbrev pub StateAgrees : Site → Account → WriterView → Pending → State → Type 0
-StateAgrees site account view pending (Idle next_id) = (next_id ≡ length view.begun) × IsIdle site account view pending
+StateAgrees site account view pending (Idle next_position) = (next_position ≡ length view.begun) × IsIdle site account view pending
 StateAgrees site account view pending (Between chunk) = IsBehind site account view pending chunk
 StateAgrees site account view pending (Writing fragment) = IsWritingInto site account view pending fragment
-StateAgrees site account view pending (Dropping next_id) = (next_id ≡ length view.begun) × IsThrownAway site account view pending
-StateAgrees site account view pending (Stalled next_id) = (next_id ≡ length view.begun) × IsStuck site account.packets view
+StateAgrees site account view pending (Dropping next_position) = (next_position ≡ length view.begun) × IsThrownAway site account view pending
+StateAgrees site account view pending (Stalled next_position) = (next_position ≡ length view.begun) × IsStuck site account.packets view
 
 -- whether a packet is begun, and how long it is
 abbrev pub IsInPacketOf : List Packet → Option OpenPacket → Type 0
@@ -61,19 +61,19 @@ is_begun (Some open_one) = true
 
 -- whether the state is one of a packet that is begun; a writer stalls in this packet or between two
 abbrev pub is_inside : Option OpenPacket → State → Bool
-is_inside packet (Idle next_id) = false
+is_inside packet (Idle next_position) = false
 is_inside packet (Between chunk) = false
 is_inside packet (Writing fragment) = true
-is_inside packet (Dropping next_id) = true
-is_inside packet (Stalled next_id) = is_begun packet
+is_inside packet (Dropping next_position) = true
+is_inside packet (Stalled next_position) = is_begun packet
 
 -- So many bytes of the packet need no further chunk: they fit into the held one, or are thrown away, or nothing is written.
 abbrev pub NeedsNoChunk : State → ℕ → Type 0
-NeedsNoChunk (Idle next_id) more = ⊥
+NeedsNoChunk (Idle next_position) more = ⊥
 NeedsNoChunk (Between chunk) more = ⊥
 NeedsNoChunk (Writing fragment) more = fragment.at + more ≤ vec_len fragment.held.body.payload
-NeedsNoChunk (Dropping next_id) more = ⊤
-NeedsNoChunk (Stalled next_id) more = ⊤
+NeedsNoChunk (Dropping next_position) more = ⊤
+NeedsNoChunk (Stalled next_position) more = ⊤
 
 -- its length so far, and how many messages are open in it
 abbrev pub len_of : Option OpenPacket → ℕ

@@ -8,7 +8,7 @@ use Rattle.trace_writer.specs.OwnSteps.{NoneHeld}
 
 -- each chunk that was completed is so still, with what it had
 abbrev pub KeepsCompleted : List BegunChunk → List BegunChunk → Type 0
-KeepsCompleted old new = (id chunk : ℕ) (content : Content) → At old id (Completed chunk content) → At new id (Completed chunk content)
+KeepsCompleted old new = (position chunk : ℕ) (content : Content) → At old position (Completed chunk content) → At new position (Completed chunk content)
 
 -- The last call that was noted before the answer is a flush. The chunks that the answer counts are the first ones, each completed; their images, with
 -- their patches, are a cut of the packets of the calls that were noted before the answer.

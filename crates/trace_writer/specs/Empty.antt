@@ -9,16 +9,16 @@ empty = Idle 0
 
 -- no chunk is held
 abbrev pub is_empty : State → Bool
-is_empty (Idle next_id) = true
+is_empty (Idle next_position) = true
 is_empty (Between chunk) = false
 is_empty (Writing fragment) = false
-is_empty (Dropping next_id) = true
-is_empty (Stalled next_id) = true
+is_empty (Dropping next_position) = true
+is_empty (Stalled next_position) = true
 
 -- the writer has stalled
 abbrev pub is_stalled : State → Bool
-is_stalled (Idle next_id) = false
+is_stalled (Idle next_position) = false
 is_stalled (Between chunk) = false
 is_stalled (Writing fragment) = false
-is_stalled (Dropping next_id) = false
-is_stalled (Stalled next_id) = true
+is_stalled (Dropping next_position) = false
+is_stalled (Stalled next_position) = true

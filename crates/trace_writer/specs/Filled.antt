@@ -27,15 +27,15 @@ pub record IsWritten (payload : List ℕ) (start at count : ℕ) (done : List (L
   pub at_is : at ≡ start + 4 + length now
   pub count_is : count ≡ length done + 1
 
--- these chunks, which have the ids from this one on, were completed with these pages
+-- these chunks, at the positions from this one on, were completed with these pages
 abbrev pub ShowsPages : Site → ℕ → List BegunChunk → List Page → Type 0
-ShowsPages site id [] [] = ⊤
-ShowsPages site id [] (page ∷ pages) = ⊥
-ShowsPages site id (Held chunk head ∷ begun) pages = ⊥
-ShowsPages site id (Completed chunk content ∷ begun) [] = ⊥
-ShowsPages site id (Completed chunk content ∷ begun) (page ∷ pages) =
-    (content ≡ record { image = image_of (site.place + 2) id page; patches = page.patches; target = site.buffer })
-    × ShowsPages site (suc id) begun pages
+ShowsPages site position [] [] = ⊤
+ShowsPages site position [] (page ∷ pages) = ⊥
+ShowsPages site position (Held chunk head ∷ begun) pages = ⊥
+ShowsPages site position (Completed chunk content ∷ begun) [] = ⊥
+ShowsPages site position (Completed chunk content ∷ begun) (page ∷ pages) =
+    (content ≡ record { image = image_of (site.place + 2) position page; patches = page.patches; target = site.buffer })
+    × ShowsPages site (suc position) begun pages
 
 -- the first fragment of a chunk that continues a packet has a byte
 abbrev pub HasByte : OpenFragment → Type 0

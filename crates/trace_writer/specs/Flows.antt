@@ -58,14 +58,14 @@ pub record StopsIn (site : Site) (old new : WriterView) (before after : Pending)
 -- the packet doesn't go on
 abbrev pub is_stopped : Flow → Bool
 is_stopped (Going next) = false
-is_stopped (Stopped next_id) = true
+is_stopped (Stopped next_position) = true
 
 -- the bytes were written, or the packet stopped among them
 abbrev pub Flows : Setup → ℕ → Route → WriterView → WriterView → Pending → Pending → OpenFragment → List ℕ → Flow → Type 0
 Flows setup place route old new before after fragment bytes (Going next) =
     PutsOn (site_of setup place route) old new before after fragment next bytes
-Flows setup place route old new before after fragment bytes (Stopped next_id) =
-    StopsIn (site_of setup place route) old new before after fragment bytes × (next_id ≡ length new.begun)
+Flows setup place route old new before after fragment bytes (Stopped next_position) =
+    StopsIn (site_of setup place route) old new before after fragment bytes × (next_position ≡ length new.begun)
 
 -- The end of a chunk: all bytes of the payload are used, or a nested length comes next that doesn't fit
 
@@ -76,7 +76,7 @@ pub record RunsOn (site : Site) (old new : WriterView) (before after : Pending) 
   pub start : next.start ≡ 0
   pub at : next.at ≡ 4
   pub continues : next.continues ≡ true
-  pub id : next.held.id ≡ fragment.held.id + 1
+  pub position : next.held.position ≡ fragment.held.position + 1
   pub size : vec_len next.held.body.payload ≡ site.size
   pub full : fragment.at ≡ site.size → (packet : Packet) (older : List Packet) → InFragment site packet older old before fragment []
       → InFragment site packet older new after next []
@@ -97,8 +97,8 @@ pub record StopsHere (site : Site) (old new : WriterView) (before after : Pendin
 abbrev pub Continues : Setup → ℕ → Route → WriterView → WriterView → Pending → Pending → OpenFragment → Flow → Type 0
 Continues setup place route old new before after fragment (Going next) =
     RunsOn (site_of setup place route) old new before after fragment next
-Continues setup place route old new before after fragment (Stopped next_id) =
-    StopsHere (site_of setup place route) old new before after fragment × (next_id ≡ length new.begun)
+Continues setup place route old new before after fragment (Stopped next_position) =
+    StopsHere (site_of setup place route) old new before after fragment × (next_position ≡ length new.begun)
 
 -- Nested lengths
 
@@ -121,8 +121,8 @@ pub record CannotSetAside (site : Site) (old new : WriterView) (before after : P
 abbrev pub SetsLength : Setup → ℕ → Route → WriterView → WriterView → Pending → Pending → OpenFragment → Flow → Type 0
 SetsLength setup place route old new before after fragment (Going next) =
     SetsAside (site_of setup place route) old new before after fragment next
-SetsLength setup place route old new before after fragment (Stopped next_id) =
-    CannotSetAside (site_of setup place route) old new before after fragment × (next_id ≡ length new.begun)
+SetsLength setup place route old new before after fragment (Stopped next_position) =
+    CannotSetAside (site_of setup place route) old new before after fragment × (next_position ≡ length new.begun)
 
 -- A call's part of a packet
 
@@ -144,5 +144,5 @@ pub record CannotWrite (site : Site) (old new : WriterView) (before after : Pend
 abbrev pub Writes : Setup → ℕ → Route → WriterView → WriterView → Pending → Pending → OpenFragment → ℕ → (Packet → Packet) → Flow → Type 0
 Writes setup place route old new before after fragment count change (Going next) =
     WritesOn (site_of setup place route) old new before after fragment next count change
-Writes setup place route old new before after fragment count change (Stopped next_id) =
-    CannotWrite (site_of setup place route) old new before after fragment change × (next_id ≡ length new.begun)
+Writes setup place route old new before after fragment count change (Stopped next_position) =
+    CannotWrite (site_of setup place route) old new before after fragment change × (next_position ≡ length new.begun)

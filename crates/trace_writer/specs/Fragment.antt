@@ -10,7 +10,7 @@ use Rattle.trace_writer.specs.declared.fragment.OpenFragment.{OpenFragment}
 -- nothing but the payload and the place of the next byte differs
 pub record IsSameChunk (old new : OpenFragment) : Type 0 where
   pub chunk : new.held.chunk ≡ old.held.chunk
-  pub id : new.held.id ≡ old.held.id
+  pub position : new.held.position ≡ old.held.position
   pub patches : new.held.body.patches ≡ old.held.body.patches
   pub start : new.start ≡ old.start
   pub count : new.count ≡ old.count
@@ -30,7 +30,7 @@ Closes old new Later = new ≡ old
 -- a hole was closed: in place, or by a patch later
 pub record AnswersClose (old new : OpenFragment) (before after : Pending) (value : ℕ) : Type 0 where
   pub answer : Closed
-  pub closes : ClosesHole before after old.held.id value answer
+  pub closes : ClosesHole before after old.held.position value answer
   pub put : Closes old new answer
   pub at : new.at ≡ old.at
 
@@ -41,4 +41,4 @@ pub record OpensMessage (old new : OpenFragment) (before after : Pending) (tag :
   pub at : tagged.at ≡ old.at + length tag
   pub put_length : IsPutInto tagged new tagged.at open_length
   pub length_at : new.at ≡ tagged.at + 4
-  pub adds : AddsHole before after tagged.held.id tagged.at
+  pub adds : AddsHole before after tagged.held.position tagged.at

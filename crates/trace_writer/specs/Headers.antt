@@ -14,8 +14,8 @@ held_head count continues = record { count = count; flags = flags_value continue
 
 -- what a completed chunk has
 abbrev pub completed_chunk : ℕ → ℕ → ℕ → ℕ → List ℕ → List Patch → ℕ → Content
-completed_chunk place id count flags payload patches buffer = record {
-  image = record { sequence = place + 2; chunk_id = id; count = count; flags = flags; payload = payload };
+completed_chunk place position count flags payload patches buffer = record {
+  image = record { sequence = place + 2; chunk_id = position; count = count; flags = flags; payload = payload };
   patches = patches;
   target = buffer;
 }

@@ -1,9 +1,11 @@
 -- Laws on writers that agree with the views of their seats.
-use Rattle.std.specs.Prelude.{◌≡◌, ◌≢◌, ℕ, ◌+◌, ◌<◌, false, List, [], ◌∷◌, ◌++◌, length}
+use Rattle.std.specs.Prelude.{◌≡◌, ◌≢◌, ℕ, ◌+◌, ◌<◌, false, List, [], ◌∷◌, ◌++◌, length, map}
 use Rattle.trace_base.specs.declared.policy.WriterPolicy.TheVariants.{Stalls}
 use Rattle.trace_model.specs.Images.{Image}
 use Rattle.trace_model.specs.Packets.{account_of, packets_of}
-use Rattle.chunk_plain.specs.Setup.{Setup}
+use Rattle.trace_model.specs.Ids.{named_image, named_patches}
+use Rattle.trace_model.specs.Cut.{IsCutFrom}
+use Rattle.chunk_plain.specs.Setup.{Setup, from_of}
 use Rattle.chunk_plain.specs.Payload.{byte_at, byte_in}
 use Rattle.chunk_plain.specs.Views.{Draft, BegunChunk, Held, WriterView}
 use Rattle.trace_writer.specs.declared.state.Writer.{Writer}
@@ -16,6 +18,13 @@ use Rattle.trace_writer.specs.Outcomes.{images_so_far, patches_so_far, held_imag
 abbrev pub AgreeingIsCut : Type 0
 AgreeingIsCut = (setup : Setup) (place : ℕ) (view : WriterView) (writer : Writer) → WriterAgrees setup place view writer
     → HasCut writer.route.payload_size (place + 2) view.calls (images_so_far place view writer) (patches_so_far view writer) (held_images place writer.state)
+
+-- The same under the ids that stand in the headers of the chunks and in the patches that are sent, of which the set-up has the first.
+abbrev pub AgreeingIsCutFrom : Type 0
+AgreeingIsCutFrom = (setup : Setup) (place : ℕ) (view : WriterView) (writer : Writer) → WriterAgrees setup place view writer
+    → IsCutFrom writer.route.payload_size (place + 2) (from_of setup place) view.calls
+    (map (named_image (from_of setup place)) (images_so_far place view writer))
+    (map (named_patches (from_of setup place)) (patches_so_far view writer))
 
 -- One that loses packets never stalls.
 abbrev pub DropsNeverStall : Type 0
@@ -43,7 +52,7 @@ pub record IsHeldImage (view : WriterView) (image : Image) : Type 0 where
   pub chunk : ℕ
   pub draft : Draft
   pub begun : view.begun ≡ completed ++ Held chunk draft ∷ []
-  pub id : image.chunk_id ≡ length completed
+  pub position : image.chunk_id ≡ length completed
   pub head : draft.head ≡ record { count = image.count; flags = image.flags }
   pub before : List (List ℕ)
   pub count : image.count ≡ length before + 1

@@ -25,24 +25,24 @@ use Rattle.trace_writer.specs.Headers.{flags_value}
 
 -- behind what was written for a call the call is noted, and that the packet was given up
 abbrev pub StopsBehind : WriterPolicy → Writer → Writer → WriterView → WriterView → Call → ℕ → Type 0
-StopsBehind Drops old new before after call next_id =
-    (new ≡ record old { state = Dropping next_id }) × (after ≡ notes_call (notes_call before call) GivenUp)
-StopsBehind Stalls old new before after call next_id = (new ≡ record old { state = Stalled next_id }) × (after ≡ notes_call before call)
-StopsBehind (StallsThenDrops tries) old new before after call next_id =
-    (new ≡ record old { state = Dropping next_id }) × (after ≡ notes_call (notes_call before call) GivenUp)
+StopsBehind Drops old new before after call next_position =
+    (new ≡ record old { state = Dropping next_position }) × (after ≡ notes_call (notes_call before call) GivenUp)
+StopsBehind Stalls old new before after call next_position = (new ≡ record old { state = Stalled next_position }) × (after ≡ notes_call before call)
+StopsBehind (StallsThenDrops tries) old new before after call next_position =
+    (new ≡ record old { state = Dropping next_position }) × (after ≡ notes_call (notes_call before call) GivenUp)
 
 -- a packet begins behind the last one, or stops at its begin
 abbrev pub GoesBehind : Writer → Writer → WriterView → WriterView → Call → Flow → Type 0
 GoesBehind old new before after call (flow.Going fragment) = (new ≡ record old { state = Writing fragment })
     × (after ≡ notes_call before call)
-GoesBehind old new before after call (flow.Stopped next_id) = StopsBehind old.route.spec.policy old new before after call next_id
+GoesBehind old new before after call (flow.Stopped next_position) = StopsBehind old.route.spec.policy old new before after call next_position
 
 -- The images of a writer
 
 -- the held chunk so far, with the size of its last fragment put in
 abbrev pub held_image : ℕ → ℕ → ℕ → Bool → List ℕ → Image
-held_image place id count continues payload =
-    record { sequence = place + 2; chunk_id = id; count = count; flags = flags_value continues false false; payload = payload }
+held_image place position count continues payload =
+    record { sequence = place + 2; chunk_id = position; count = count; flags = flags_value continues false false; payload = payload }
 
 -- the held payload with the size of its last fragment put in
 abbrev pub fragment_payload : OpenFragment → List ℕ
@@ -50,19 +50,19 @@ fragment_payload fragment = with_bytes fragment.held.body.payload.items fragment
 
 -- what a writer holds, as an image
 abbrev pub held_images : ℕ → State → List Image
-held_images place (Idle next_id) = []
-held_images place (Between chunk) = held_image place chunk.held.id chunk.count chunk.continues chunk.held.body.payload.items ∷ []
-held_images place (Writing fragment) = held_image place fragment.held.id fragment.count fragment.continues (fragment_payload fragment) ∷ []
-held_images place (Dropping next_id) = []
-held_images place (Stalled next_id) = []
+held_images place (Idle next_position) = []
+held_images place (Between chunk) = held_image place chunk.held.position chunk.count chunk.continues chunk.held.body.payload.items ∷ []
+held_images place (Writing fragment) = held_image place fragment.held.position fragment.count fragment.continues (fragment_payload fragment) ∷ []
+held_images place (Dropping next_position) = []
+held_images place (Stalled next_position) = []
 
 -- the patches that weren't sent count as those of the held chunk
 abbrev pub held_patches : Pending → State → List (List Patch)
-held_patches pending (Idle next_id) = []
+held_patches pending (Idle next_position) = []
 held_patches pending (Between chunk) = with_lasts (hole_chunks pending.holes) pending.unsent ∷ []
 held_patches pending (Writing fragment) = with_lasts (hole_chunks pending.holes) pending.unsent ∷ []
-held_patches pending (Dropping next_id) = []
-held_patches pending (Stalled next_id) = []
+held_patches pending (Dropping next_position) = []
+held_patches pending (Stalled next_position) = []
 
 -- what a writer completed, and what it holds as an image
 abbrev pub images_so_far : ℕ → WriterView → Writer → List Image

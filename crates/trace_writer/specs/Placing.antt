@@ -22,7 +22,7 @@ use Rattle.trace_writer.specs.Helping.{refuses}
 use Rattle.trace_writer.specs.Headers.{held_head}
 use Rattle.trace_writer.specs.Drafted.{IsFit, CountsNext}
 use Rattle.trace_writer.specs.Site.{Site}
-use Rattle.trace_writer.specs.Ids.{last_id, least_filled}
+use Rattle.trace_writer.specs.Ids.{last_position, least_filled}
 use Rattle.trace_writer.specs.States.{InFragment, IsIdle, has_room}
 
 -- a packet as it begins, without its front mark
@@ -45,10 +45,10 @@ pub record IsStarted (chunk : HeldChunk) (fragment : OpenFragment) : Type 0 wher
 -- A packet can begin in the chunk, behind what it holds, and has ids for all its bytes.
 pub record IsRoomy (site : Site) (account : Account) (view : WriterView) (pending : Pending) (chunk : HeldChunk) : Type 0 where
   pub fit : IsFit site.setup view chunk chunk.count chunk.at
-  pub follows : MayFollow (head_at view chunk.held.id) (held_head (chunk.count + 1) chunk.continues)
+  pub follows : MayFollow (head_at view chunk.held.position) (held_head (chunk.count + 1) chunk.continues)
   pub room : chunk.at + 12 ≤ vec_len chunk.held.body.payload
   pub few : chunk.count < MAX_FRAGMENTS
-  pub ids : MAX_PACKET_LEN + least_filled ≤ (last_id - chunk.held.id) * least_filled
+  pub ids : MAX_PACKET_LEN + least_filled ≤ (last_position - chunk.held.position) * least_filled
   pub apart : chunk.continues ≡ true → 0 < chunk.at
   pub begins : (packet : Packet) (counted new : WriterView) (fragment : OpenFragment) → IsBare account packet → IsStarted chunk fragment
       → CountsNext chunk view counted → new.begun ≡ counted.begun
@@ -56,29 +56,29 @@ pub record IsRoomy (site : Site) (account : Account) (view : WriterView) (pendin
 
 -- a chunk is held in which a packet can begin
 abbrev pub is_roomy : State → Bool
-is_roomy (Idle next_id) = false
+is_roomy (Idle next_position) = false
 is_roomy (Between chunk) = has_room (vec_len chunk.held.body.payload) chunk
 is_roomy (Writing fragment) = false
-is_roomy (Throwing next_id) = false
-is_roomy (Stalled next_id) = false
+is_roomy (Throwing next_position) = false
+is_roomy (Stalled next_position) = false
 
 -- a packet can begin without a further chunk, or the writer begins none
 abbrev pub BeginsHere : State → Type 0
-BeginsHere (Idle next_id) = ⊥
+BeginsHere (Idle next_position) = ⊥
 BeginsHere (Between chunk) = has_room (vec_len chunk.held.body.payload) chunk ≡ true
 BeginsHere (Writing fragment) = ⊥
-BeginsHere (Throwing next_id) = ⊥
-BeginsHere (Stalled next_id) = ⊤
+BeginsHere (Throwing next_position) = ⊥
+BeginsHere (Stalled next_position) = ⊤
 
 -- a packet can begin there; or nowhere
 abbrev pub IsPlace : Site → Account → WriterView → Pending → Place → Type 0
 IsPlace site account view pending (Behind chunk) = IsRoomy site account view pending chunk
-IsPlace site account view pending (Nowhere next_id) = (next_id ≡ length view.begun) × IsIdle site account view pending
+IsPlace site account view pending (Nowhere next_position) = (next_position ≡ length view.begun) × IsIdle site account view pending
 
 -- there is a chunk to begin a packet in
 abbrev pub is_behind : Place → Bool
 is_behind (Behind chunk) = true
-is_behind (Nowhere next_id) = false
+is_behind (Nowhere next_position) = false
 
 -- A packet is begun at a place that was found. Where none was it is dropped, by a writer that loses packets, and one that stalls begins none.
 pub record BeginsAt (policy : WriterPolicy) (place : Place) (answer : Result Begun CallFault) (old new : List call.Call) (after : State) : Type 0 where

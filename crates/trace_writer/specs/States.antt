@@ -28,12 +28,12 @@ pub record InFragment (site : Site) (packet : Packet) (older : List Packet) (vie
   pub begun : view.begun ≡ completed ++ Held fragment.held.chunk draft ∷ []
   pub drafted : IsDrafted draft fragment.count fragment.continues done
   pub shown : ShowsPages site 0 completed pages
-  pub id : fragment.held.id ≡ length pages
+  pub position : fragment.held.position ≡ length pages
   pub sized : (spot site.setup fragment.held.chunk).payload_size ≡ site.size
   pub whole : vec_len fragment.held.body.payload ≡ site.size
   pub written : IsWritten fragment.held.body.payload.items fragment.start fragment.at fragment.count done now
   pub few : length pending.holes ≤ MAX_OPEN_HOLES
-  pub room : length pending.unsent + holes_outside fragment.held.id pending.holes ≤ MAX_OPEN_HOLES
+  pub room : length pending.unsent + holes_outside fragment.held.position pending.holes ≤ MAX_OPEN_HOLES
   pub writing : IsWriting site.size packet older pages fragment.continues done now pending.unsent (reverse pending.holes) coming
 
 -- No chunk is held, and no packet is written: all that was kept stands in completed chunks.
@@ -65,7 +65,7 @@ pub record IsBehind (site : Site) (account : Account) (view : WriterView) (pendi
   pub sealed : chunk.sealed ≡ length (frames before)
   pub drafted : IsDrafted draft chunk.count chunk.continues before
   pub shown : ShowsPages site 0 completed pages
-  pub id : chunk.held.id ≡ length pages
+  pub position : chunk.held.position ≡ length pages
   pub sized : (spot site.setup chunk.held.chunk).payload_size ≡ site.size
   pub whole : vec_len chunk.held.body.payload ≡ site.size
   pub filled : IsFilled chunk.held.body.payload.items chunk.at chunk.count (first ∷ others)

@@ -1,6 +1,6 @@
 //! Where a packet begins.
 ghost use Rattle.std.specs.Prelude.{◌≡◌, ℕ, ◌+◌, ◌<◌, ◌≤◌, true, false, [], ◌∷◌, ◌++◌, List, None, length, not, Ok, Err, MatchResult, vec_len};
-ghost use Rattle.chunk_plain.specs.declared.tokens.TheConstants.{ID_LIMIT};
+ghost use Rattle.chunk_plain.specs.declared.tokens.TheConstants.{POSITION_LIMIT};
 ghost use Rattle.trace_writer.specs.declared.ids.TheConstants.{PACKET_IDS};
 ghost use Rattle.trace_model.specs.Packets.{Account, account_of};
 ghost use Rattle.commit_body.specs.Pending.{Pending};
@@ -36,8 +36,8 @@ const FRONT_MARK: [u8; 3] = [0xD0, 0x02, 0x01];
 #[derive(Debug)]
 pub(crate) enum Place {
     Behind(HeldChunk),
-    /// No chunk was free. The next one gets this id.
-    Nowhere { next_id: u32 },
+    /// No chunk was free. The next one gets this position.
+    Nowhere { next_position: u32 },
 }
 
 /// A place in a new chunk.
@@ -46,14 +46,14 @@ fn new_place<W: Words, L: Ledger, H: HelperOn<W>>(
     table: &mut W,
     seat: &mut W::Writer,
     help: &mut H,
-    next_id: u32,
+    next_position: u32,
     steps: &mut Steps<L>,
 ) -> Place
     requires seat { W.means.sits table.old seat.old }
     requires needs { H.needs help.old table.old }
     requires route { IsRoute (W.means.setup table.old) (W.means.place seat.old) route.now }
-    requires next { next_id ≡ length (W.means.view table.old seat.old).begun }
-    requires ids { next_id + PACKET_IDS ≤ ID_LIMIT }
+    requires next { next_position ≡ length (W.means.view table.old seat.old).begun }
+    requires ids { next_position + PACKET_IDS ≤ POSITION_LIMIT }
     requires none_held { NoneHeld (W.means.view table.old seat.old).begun }
     ensures calls { (W.means.view table.new seat.new).calls ≡ (W.means.view table.old seat.old).calls }
     ensures place { (account : Account) (pending : Pending)
@@ -64,9 +64,9 @@ fn new_place<W: Words, L: Ledger, H: HelperOn<W>>(
         route.now help.old table.old seat.old steps.old (not (is_behind result)) help.new table.new seat.new steps.new }
     ensures few_steps { route.now.spec.policy ≡ Drops → steps.new ≤ steps.old + route.now.arbiter.chunks + 1 }
 {
-    match claim_next(route, table, seat, help, next_id, steps) {
+    match claim_next(route, table, seat, help, next_position, steps) {
         Some(held) => Place::Behind(HeldChunk::new(held, false)),
-        None => Place::Nowhere { next_id },
+        None => Place::Nowhere { next_position },
     }
 }
 
@@ -86,7 +86,7 @@ fn held_or_new_place<W: Words, L: Ledger, H: HelperOn<W>>(
     requires behind { (account : Account)
         × IsBehind (site_of (W.means.setup table.old) (W.means.place seat.old) route.now) account (W.means.view table.old seat.old)
         pending.old chunk }
-    requires ids { chunk.held.id + 1 + PACKET_IDS ≤ ID_LIMIT }
+    requires ids { chunk.held.position + 1 + PACKET_IDS ≤ POSITION_LIMIT }
     ensures calls { (W.means.view table.new seat.new).calls ≡ (W.means.view table.old seat.old).calls }
     ensures place { (account : Account)
         → IsBehind (site_of (W.means.setup table.old) (W.means.place seat.old) route.now) account (W.means.view table.old seat.old)
@@ -102,9 +102,9 @@ fn held_or_new_place<W: Words, L: Ledger, H: HelperOn<W>>(
     if chunk.has_room() {
         return Place::Behind(chunk);
     }
-    let next_id = chunk.held.id + 1;
-    chunk.complete(table, seat, pending, route.spec.buffer, false);
-    new_place(route, table, seat, help, next_id, steps)
+    let next_position = chunk.held.position + 1;
+    chunk.complete(table, seat, pending, route.spec, false);
+    new_place(route, table, seat, help, next_position, steps)
 }
 
 /// Begins a packet in a chunk that has room for it.
@@ -132,9 +132,14 @@ fn begin_kept<W: Words>(writer: &mut Writer, table: &mut W, seat: &mut W::Writer
 }
 
 /// Begins a packet that is dropped as a whole.
-fn begin_dropped<W: Words>(writer: &mut Writer, table: &mut W, seat: &mut W::Writer, next_id: u32)
+fn begin_dropped<W: Words>(
+    writer: &mut Writer,
+    table: &mut W,
+    seat: &mut W::Writer,
+    next_position: u32,
+)
     requires seat { W.means.sits table.old seat.old }
-    requires next { next_id ≡ length (W.means.view table.old seat.old).begun }
+    requires next { next_position ≡ length (W.means.view table.old seat.old).begun }
     requires idle { IsIdle (site_of (W.means.setup table.old) (W.means.place seat.old) writer.old.route)
         (account_of (W.means.view table.old seat.old).calls) (W.means.view table.old seat.old) writer.old.pending }
     requires empty { is_empty writer.old.state ≡ true }
@@ -147,7 +152,7 @@ fn begin_dropped<W: Words>(writer: &mut Writer, table: &mut W, seat: &mut W::Wri
 {
     writer.begun = writer.begun.saturating_add(1);
     writer.packet = Some(OpenPacket::new());
-    put_state(&mut writer.state, State::Dropping { next_id });
+    put_state(&mut writer.state, State::Dropping { next_position });
     writer.dropped = writer.dropped.saturating_add(1);
     table.note_call(seat, WriterCall::Begun { kept: false });
 }
@@ -175,17 +180,17 @@ fn begin_at<W: Words>(
             begin_kept(writer, table, seat, chunk);
             Ok(Begun::Kept)
         }
-        Place::Nowhere { next_id } => match writer.route.spec.policy {
+        Place::Nowhere { next_position } => match writer.route.spec.policy {
             WriterPolicy::Drops => {
-                begin_dropped(writer, table, seat, next_id);
+                begin_dropped(writer, table, seat, next_position);
                 Ok(Begun::Dropping)
             }
             WriterPolicy::Stalls => {
-                put_state(&mut writer.state, State::Stalled { next_id });
+                put_state(&mut writer.state, State::Stalled { next_position });
                 Err(CallFault::Stalled)
             }
             WriterPolicy::StallsThenDrops { tries: _ } => {
-                begin_dropped(writer, table, seat, next_id);
+                begin_dropped(writer, table, seat, next_position);
                 Ok(Begun::Dropping)
             }
         },
@@ -204,7 +209,7 @@ pub(crate) fn begin<W: Words, L: Ledger, H: HelperOn<W>>(
     requires needs { H.needs help.old table.old }
     requires agrees { Agrees (W.means.setup table.old) (W.means.place seat.old) (W.means.view table.old seat.old) writer.old }
     requires none_begun { is_begun writer.old.packet ≡ false }
-    requires ids { length (W.means.view table.old seat.old).begun + PACKET_IDS ≤ ID_LIMIT }
+    requires ids { length (W.means.view table.old seat.old).begun + PACKET_IDS ≤ POSITION_LIMIT }
     ensures agrees { Agrees (W.means.setup table.old) (W.means.place seat.old) (W.means.view table.new seat.new) writer.new }
     ensures route { writer.new.route ≡ writer.old.route }
     ensures stays { is_stalled_state writer.old.state ≡ true
@@ -235,10 +240,10 @@ fn has_room_here(state: &State) -> bool
 {
     match state {
         State::Between(chunk) => chunk.has_room(),
-        State::Idle { next_id: _ } => false,
+        State::Idle { next_position: _ } => false,
         State::Writing(_fragment) => false,
-        State::Dropping { next_id: _ } => false,
-        State::Stalled { next_id: _ } => false,
+        State::Dropping { next_position: _ } => false,
+        State::Stalled { next_position: _ } => false,
     }
 }
 
@@ -249,7 +254,7 @@ fn begin_here<W: Words>(writer: &mut Writer, table: &mut W, seat: &mut W::Writer
     requires seat { W.means.sits table.old seat.old }
     requires agrees { Agrees (W.means.setup table.old) (W.means.place seat.old) (W.means.view table.old seat.old) writer.old }
     requires none_begun { is_begun writer.old.packet ≡ false }
-    requires ids { length (W.means.view table.old seat.old).begun + PACKET_IDS ≤ ID_LIMIT }
+    requires ids { length (W.means.view table.old seat.old).begun + PACKET_IDS ≤ POSITION_LIMIT }
     requires roomy { is_roomy writer.old.state ≡ true }
     ensures agrees { Agrees (W.means.setup table.old) (W.means.place seat.old) (W.means.view table.new seat.new) writer.new }
     ensures route { writer.new.route ≡ writer.old.route }
@@ -259,10 +264,10 @@ fn begin_here<W: Words>(writer: &mut Writer, table: &mut W, seat: &mut W::Writer
 {
     match take_state(&mut writer.state) {
         State::Between(chunk) => begin_kept(writer, table, seat, chunk),
-        State::Idle { next_id: _ } => unreachable!(),
+        State::Idle { next_position: _ } => unreachable!(),
         State::Writing(_fragment) => unreachable!(),
-        State::Dropping { next_id: _ } => unreachable!(),
-        State::Stalled { next_id: _ } => unreachable!(),
+        State::Dropping { next_position: _ } => unreachable!(),
+        State::Stalled { next_position: _ } => unreachable!(),
     }
 }
 
@@ -279,7 +284,7 @@ fn begin_elsewhere<W: Words, L: Ledger, H: HelperOn<W>>(
     requires needs { H.needs help.old table.old }
     requires agrees { Agrees (W.means.setup table.old) (W.means.place seat.old) (W.means.view table.old seat.old) writer.old }
     requires none_begun { is_begun writer.old.packet ≡ false }
-    requires ids { length (W.means.view table.old seat.old).begun + PACKET_IDS ≤ ID_LIMIT }
+    requires ids { length (W.means.view table.old seat.old).begun + PACKET_IDS ≤ POSITION_LIMIT }
     ensures agrees { Agrees (W.means.setup table.old) (W.means.place seat.old) (W.means.view table.new seat.new) writer.new }
     ensures route { writer.new.route ≡ writer.old.route }
     ensures stays { is_stalled_state writer.old.state ≡ true
@@ -301,13 +306,13 @@ fn begin_elsewhere<W: Words, L: Ledger, H: HelperOn<W>>(
     }
     let route = writer.route;
     let place = match take_state(&mut writer.state) {
-        State::Idle { next_id } => new_place(&route, table, seat, help, next_id, steps),
+        State::Idle { next_position } => new_place(&route, table, seat, help, next_position, steps),
         State::Between(chunk) => {
             held_or_new_place(&route, table, seat, help, &mut writer.pending, chunk, steps)
         }
         State::Writing(_fragment) => unreachable!(),
-        State::Dropping { next_id: _ } => unreachable!(),
-        State::Stalled { next_id: _ } => unreachable!(),
+        State::Dropping { next_position: _ } => unreachable!(),
+        State::Stalled { next_position: _ } => unreachable!(),
     };
     begin_at(writer, table, seat, place)
 }

@@ -1,10 +1,10 @@
 //! A held chunk behind its last fragment.
 ghost use Rattle.std.specs.Prelude.{◌≡◌, ◌≢◌, ℕ, ◌+◌, ◌-◌, ◌%◌, ◌<◌, ◌≤◌, Bool, false, ◌&&◌, nat_le, nat_lt, [], if◌then◌else◌, vec_len};
-ghost use Rattle.chunk_plain.specs.declared.tokens.TheConstants.{ID_LIMIT};
+ghost use Rattle.chunk_plain.specs.declared.tokens.TheConstants.{POSITION_LIMIT};
 ghost use Rattle.trace_base.specs.declared.limits.TheConstants.{MAX_FRAGMENTS, MAX_PAGE_SIZE};
 ghost use Rattle.trace_model.specs.Sequences.{is_among};
 ghost use Rattle.commit_body.specs.Patches.{hole_chunks, with_lasts};
-ghost use Rattle.chunk_plain.specs.Setup.{spot};
+ghost use Rattle.chunk_plain.specs.Setup.{spot, from_of};
 ghost use Rattle.chunk_plain.specs.Drafts.{IsHolding, MayFollow, head_at};
 ghost use Rattle.chunk_plain.specs.Steps.{redrafts, completes};
 ghost use Rattle.trace_writer.specs.Headers.{flags_value, held_head, completed_chunk};
@@ -14,6 +14,7 @@ use crate::fragment::OpenFragment;
 use chunk_plain::{Held, Words};
 use commit_body::PatchList;
 use trace_base::limits::MAX_FRAGMENTS;
+use trace_base::policy::WriterSpec;
 
 /// A packet is begun in a held chunk where so many bytes are left: its size, a front mark and a tag
 /// fit.
@@ -42,10 +43,10 @@ pub(crate) fn flags_of(continues: bool, runs_on: bool, awaits: bool) -> u8
 }
 
 /// Whether patches for the chunk are to come once the packet has run on.
-fn is_awaiting(runs_on: bool, pending: &PatchList, chunk_id: u32) -> bool
-    ensures { result ≡ (runs_on && is_among chunk_id (hole_chunks pending.now.holes)) }
+fn is_awaiting(runs_on: bool, pending: &PatchList, position: u32) -> bool
+    ensures { result ≡ (runs_on && is_among position (hole_chunks pending.now.holes)) }
 {
-    runs_on && pending.is_open_in(chunk_id)
+    runs_on && pending.is_open_in(position)
 }
 
 /// A chunk that its writer holds, whose payload is filled up to `at` by so many fragments. What is
@@ -62,7 +63,7 @@ pub(crate) struct HeldChunk {
     ghost small: { vec_len held.body.payload ≤ MAX_PAGE_SIZE },
     ghost few: { count ≤ MAX_FRAGMENTS },
     ghost empty: { held.body.patches.value.items ≡ [] },
-    ghost id_fits: { held.id < ID_LIMIT },
+    ghost position_fits: { held.position < POSITION_LIMIT },
 }
 
 impl HeldChunk {
@@ -72,7 +73,7 @@ impl HeldChunk {
     pub fn new(held: Held, continues: bool) -> HeldChunk
         requires small { vec_len held.body.payload ≤ MAX_PAGE_SIZE }
         requires empty { held.body.patches.value.items ≡ [] }
-        requires id_fits { held.id < ID_LIMIT }
+        requires position_fits { held.position < POSITION_LIMIT }
         ensures held { result.held ≡ held }
         ensures sealed { result.sealed ≡ 0 }
         ensures at { result.at ≡ 0 }
@@ -102,7 +103,7 @@ impl HeldChunk {
     pub fn start_fragment<W: Words>(self, table: &mut W, seat: &mut W::Writer) -> OpenFragment
         requires seat { W.means.sits table.old seat.old }
         requires fit { IsFit (W.means.setup table.old) (W.means.view table.old seat.old) self self.count self.at }
-        requires head { MayFollow (head_at (W.means.view table.old seat.old) self.held.id) (held_head (self.count + 1) self.continues) }
+        requires head { MayFollow (head_at (W.means.view table.old seat.old) self.held.position) (held_head (self.count + 1) self.continues) }
         requires room { self.at + 4 ≤ vec_len self.held.body.payload }
         requires few { self.count < MAX_FRAGMENTS }
         ensures held { result.held ≡ self.held }
@@ -136,24 +137,26 @@ impl HeldChunk {
         }
     }
 
-    /// Completes the chunk, all of which is published first, with the patches that are to be sent.
+    /// Completes the chunk, all of which is published first, with the patches that are to be sent. They
+    /// name the writer's chunks by ids, of which the specification has the first.
     pub fn complete<W: Words>(
         self,
         table: &mut W,
         seat: &mut W::Writer,
         pending: &mut PatchList,
-        buffer: u8,
+        spec: WriterSpec,
         runs_on: bool,
     )
         requires seat { W.means.sits table.old seat.old }
         requires fit { IsFit (W.means.setup table.old) (W.means.view table.old seat.old) self (self.count - 1)
             (vec_len self.held.body.payload) }
-        requires head { head_at (W.means.view table.old seat.old) self.held.id ≡ held_head self.count self.continues }
+        requires head { head_at (W.means.view table.old seat.old) self.held.position ≡ held_head self.count self.continues }
+        requires from { spec.from ≡ from_of (W.means.setup table.old) (W.means.place seat.old) }
         ensures pending { pending.new ≡ record pending.old { unsent = [] } }
-        ensures view { W.means.view table.new seat.new ≡ completes (W.means.view table.old seat.old) self.held.chunk self.held.id
-            (completed_chunk (W.means.place seat.old) self.held.id self.count
-            (flags_value self.continues runs_on (runs_on && is_among self.held.id (hole_chunks pending.old.holes)))
-            self.held.body.payload.items (with_lasts (hole_chunks pending.old.holes) pending.old.unsent) buffer) }
+        ensures view { W.means.view table.new seat.new ≡ completes (W.means.view table.old seat.old) self.held.chunk self.held.position
+            (completed_chunk (W.means.place seat.old) self.held.position self.count
+            (flags_value self.continues runs_on (runs_on && is_among self.held.position (hole_chunks pending.old.holes)))
+            self.held.body.payload.items (with_lasts (hole_chunks pending.old.holes) pending.old.unsent) spec.buffer) }
         ensures quiet { IsQuiet W.means table.old seat.old table.new seat.new }
     {
         let HeldChunk {
@@ -165,9 +168,13 @@ impl HeldChunk {
         } = self;
         let size = held.body.payload.len() as u32;
         table.publish(seat, &mut held, sealed, size);
-        let flags = flags_of(continues, runs_on, is_awaiting(runs_on, pending, held.id));
-        pending.drain_into(&mut held.body);
-        held.body.target = buffer;
+        let flags = flags_of(
+            continues,
+            runs_on,
+            is_awaiting(runs_on, pending, held.position),
+        );
+        pending.drain_into(&mut held.body, spec.from);
+        held.body.target = spec.buffer;
         table.set_header(seat, &mut held, count, flags);
         table.complete(seat, held);
     }
@@ -183,7 +190,7 @@ impl HeldChunk {
         } = self;
         let Held {
             chunk: _,
-            id: _,
+            position: _,
             body: _,
         } = held;
     }

@@ -1,6 +1,6 @@
 //! How a writer gets its next chunk.
 ghost use Rattle.std.specs.Prelude.{◌≡◌, ◌+◌, ◌^◌, ◌-◌, ◌<◌, ◌≤◌, true, false, length, not, is_some, IfSome, IfNone};
-ghost use Rattle.chunk_plain.specs.declared.tokens.TheConstants.{ID_LIMIT, MAX_HELD};
+ghost use Rattle.chunk_plain.specs.declared.tokens.TheConstants.{POSITION_LIMIT, MAX_HELD};
 ghost use Rattle.trace_base.specs.declared.policy.WriterPolicy.TheVariants.{Drops, Stalls, StallsThenDrops};
 ghost use Rattle.chunk_plain.specs.Owned.{held_count};
 ghost use Rattle.chunk_plain.specs.Drafts.{IsHolding};
@@ -15,6 +15,7 @@ use crate::route::Route;
 use chunk_plain::{Held, Words};
 use claim_arbiter::claim_over;
 use std::sync::ledger::Ledger;
+use trace_base::ids::id_of;
 use trace_base::policy::WriterPolicy;
 use trace_base::steps::Steps;
 
@@ -25,26 +26,27 @@ pub(crate) fn claim_asking<W: Words, L: Ledger, H: HelperOn<W>>(
     table: &mut W,
     seat: &mut W::Writer,
     help: &mut H,
-    next_id: u32,
+    next_position: u32,
     steps: &mut Steps<L>,
 ) -> Option<Held>
     requires seat { W.means.sits table.old seat.old }
     requires needs { H.needs help.old table.old }
     requires route { IsRoute (W.means.setup table.old) (W.means.place seat.old) route.now }
     requires stalls { route.now.spec.policy ≡ Stalls }
-    requires id { next_id ≡ length (W.means.view table.old seat.old).begun }
-    requires id_fits { next_id < ID_LIMIT }
+    requires position { next_position ≡ length (W.means.view table.old seat.old).begun }
+    requires position_fits { next_position < POSITION_LIMIT }
     requires none_held { NoneHeld (W.means.view table.old seat.old).begun }
     ensures won { IfSome result (λ held. Wins route.now held.chunk (W.means.view table.old seat.old) (W.means.view table.new seat.new)) }
-    ensures begun { IfSome result (λ held. IsBegun (W.means.setup table.old) held.chunk next_id held) }
+    ensures begun { IfSome result (λ held. IsBegun (W.means.setup table.old) held.chunk next_position held) }
     ensures none { IfNone result (FindsNone (W.means.view table.old seat.old) (W.means.view table.new seat.new)) }
     ensures work { IsWork W.means H.needs H.helps false
         route.now help.old table.old seat.old steps.old (not (is_some result)) help.new table.new seat.new steps.new }
     ensures begins { IsWork W.means H.needs H.helps true
         route.now help.old table.old seat.old steps.old (not (is_some result)) help.new table.new seat.new steps.new }
 {
+    let id = id_of(route.spec.from, next_position);
     'claims: loop {
-        if let Some(held) = claim_over(&route.arbiter, table, seat, next_id, steps) {
+        if let Some(held) = claim_over(&route.arbiter, table, seat, id, steps) {
             return Some(held);
         }
         if !help.help(table, route.spec.producer) {
@@ -61,33 +63,34 @@ pub(crate) fn claim_trying<W: Words, L: Ledger, H: HelperOn<W>>(
     seat: &mut W::Writer,
     help: &mut H,
     tries: u32,
-    next_id: u32,
+    next_position: u32,
     steps: &mut Steps<L>,
 ) -> Option<Held>
     requires seat { W.means.sits table.old seat.old }
     requires needs { H.needs help.old table.old }
     requires route { IsRoute (W.means.setup table.old) (W.means.place seat.old) route.now }
     requires trying { route.now.spec.policy ≡ StallsThenDrops tries }
-    requires id { next_id ≡ length (W.means.view table.old seat.old).begun }
-    requires id_fits { next_id < ID_LIMIT }
+    requires position { next_position ≡ length (W.means.view table.old seat.old).begun }
+    requires position_fits { next_position < POSITION_LIMIT }
     requires few { held_count (W.means.view table.old seat.old).begun < MAX_HELD }
     ensures won { IfSome result (λ held. Wins route.now held.chunk (W.means.view table.old seat.old) (W.means.view table.new seat.new)) }
-    ensures begun { IfSome result (λ held. IsBegun (W.means.setup table.old) held.chunk next_id held) }
+    ensures begun { IfSome result (λ held. IsBegun (W.means.setup table.old) held.chunk next_position held) }
     ensures none { IfNone result (FindsNone (W.means.view table.old seat.old) (W.means.view table.new seat.new)) }
     ensures work { IsWork W.means H.needs H.helps false
         route.now help.old table.old seat.old steps.old (not (is_some result)) help.new table.new seat.new steps.new }
     ensures begins { NoneHeld (W.means.view table.old seat.old).begun → IsWork W.means H.needs H.helps true
         route.now help.old table.old seat.old steps.old (not (is_some result)) help.new table.new seat.new steps.new }
 {
+    let id = id_of(route.spec.from, next_position);
     let mut left = tries;
     'tries: while left > 0 {
-        if let Some(held) = claim_over(&route.arbiter, table, seat, next_id, steps) {
+        if let Some(held) = claim_over(&route.arbiter, table, seat, id, steps) {
             return Some(held);
         }
         let _worth = help.help(table, route.spec.producer);
         left -= 1;
     }
-    claim_over(&route.arbiter, table, seat, next_id, steps)
+    claim_over(&route.arbiter, table, seat, id, steps)
 }
 
 /// Claims the next chunk.
@@ -96,27 +99,30 @@ pub(crate) fn claim_next<W: Words, L: Ledger, H: HelperOn<W>>(
     table: &mut W,
     seat: &mut W::Writer,
     help: &mut H,
-    next_id: u32,
+    next_position: u32,
     steps: &mut Steps<L>,
 ) -> Option<Held>
     requires seat { W.means.sits table.old seat.old }
     requires needs { H.needs help.old table.old }
     requires route { IsRoute (W.means.setup table.old) (W.means.place seat.old) route.now }
-    requires id { next_id ≡ length (W.means.view table.old seat.old).begun }
-    requires id_fits { next_id < ID_LIMIT }
+    requires position { next_position ≡ length (W.means.view table.old seat.old).begun }
+    requires position_fits { next_position < POSITION_LIMIT }
     requires none_held { NoneHeld (W.means.view table.old seat.old).begun }
     ensures won { IfSome result (λ held. Wins route.now held.chunk (W.means.view table.old seat.old) (W.means.view table.new seat.new)) }
-    ensures begun { IfSome result (λ held. IsBegun (W.means.setup table.old) held.chunk next_id held) }
+    ensures begun { IfSome result (λ held. IsBegun (W.means.setup table.old) held.chunk next_position held) }
     ensures none { IfNone result (FindsNone (W.means.view table.old seat.old) (W.means.view table.new seat.new)) }
     ensures work { IsWork W.means H.needs H.helps true
         route.now help.old table.old seat.old steps.old (not (is_some result)) help.new table.new seat.new steps.new }
     ensures few_steps { route.now.spec.policy ≡ Drops → steps.new ≤ steps.old + route.now.arbiter.chunks + 1 }
 {
     match route.spec.policy {
-        WriterPolicy::Drops => claim_over(&route.arbiter, table, seat, next_id, steps),
-        WriterPolicy::Stalls => claim_asking(route, table, seat, help, next_id, steps),
+        WriterPolicy::Drops => {
+            let id = id_of(route.spec.from, next_position);
+            claim_over(&route.arbiter, table, seat, id, steps)
+        }
+        WriterPolicy::Stalls => claim_asking(route, table, seat, help, next_position, steps),
         WriterPolicy::StallsThenDrops { tries } => {
-            claim_trying(route, table, seat, help, tries, next_id, steps)
+            claim_trying(route, table, seat, help, tries, next_position, steps)
         }
     }
 }

@@ -225,14 +225,14 @@ fn write_field_on<W: Words, L: Ledger, H: HelperOn<W>>(
             );
             go_on(writer, table, seat, flow, call)
         }
-        State::Dropping { next_id } => {
-            put_state(&mut writer.state, State::Dropping { next_id });
+        State::Dropping { next_position } => {
+            put_state(&mut writer.state, State::Dropping { next_position });
             table.note_call(seat, call);
             Ok(())
         }
-        State::Idle { next_id: _ } => unreachable!(),
+        State::Idle { next_position: _ } => unreachable!(),
         State::Between(_chunk) => unreachable!(),
-        State::Stalled { next_id: _ } => unreachable!(),
+        State::Stalled { next_position: _ } => unreachable!(),
     }
 }
 
@@ -310,14 +310,14 @@ fn write_nested_on<W: Words, L: Ledger, H: HelperOn<W>>(
             let flow = put_nested(&route, table, seat, help, pending, fragment, tag, steps);
             go_on(writer, table, seat, flow, call)
         }
-        State::Dropping { next_id } => {
-            put_state(&mut writer.state, State::Dropping { next_id });
+        State::Dropping { next_position } => {
+            put_state(&mut writer.state, State::Dropping { next_position });
             table.note_call(seat, call);
             Ok(())
         }
-        State::Idle { next_id: _ } => unreachable!(),
+        State::Idle { next_position: _ } => unreachable!(),
         State::Between(_chunk) => unreachable!(),
-        State::Stalled { next_id: _ } => unreachable!(),
+        State::Stalled { next_position: _ } => unreachable!(),
     }
 }
 
@@ -343,18 +343,18 @@ fn go_on<W: Words>(
             put_state(&mut writer.state, State::Writing(fragment));
             Ok(())
         }
-        Flow::Stopped { next_id } => match writer.route.spec.policy {
+        Flow::Stopped { next_position } => match writer.route.spec.policy {
             WriterPolicy::Drops => {
-                put_state(&mut writer.state, State::Dropping { next_id });
+                put_state(&mut writer.state, State::Dropping { next_position });
                 table.note_call(seat, WriterCall::GivenUp);
                 Ok(())
             }
             WriterPolicy::Stalls => {
-                put_state(&mut writer.state, State::Stalled { next_id });
+                put_state(&mut writer.state, State::Stalled { next_position });
                 Err(CallFault::Stalled)
             }
             WriterPolicy::StallsThenDrops { tries: _ } => {
-                put_state(&mut writer.state, State::Dropping { next_id });
+                put_state(&mut writer.state, State::Dropping { next_position });
                 table.note_call(seat, WriterCall::GivenUp);
                 Ok(())
             }
@@ -389,10 +389,10 @@ pub(crate) fn end_message<W: Words>(writer: &mut Writer, table: &mut W, seat: &m
     let length = packet.end_nested();
     match &mut writer.state {
         State::Writing(fragment) => fragment.close_hole(&mut writer.pending, length),
-        State::Dropping { next_id: _ } => {}
-        State::Idle { next_id: _ } => unreachable!(),
+        State::Dropping { next_position: _ } => {}
+        State::Idle { next_position: _ } => unreachable!(),
         State::Between(_chunk) => unreachable!(),
-        State::Stalled { next_id: _ } => unreachable!(),
+        State::Stalled { next_position: _ } => unreachable!(),
     }
     table.note_call(seat, WriterCall::Ended);
 }

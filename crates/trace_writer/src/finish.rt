@@ -35,13 +35,13 @@ pub(crate) fn finish<W: Words>(writer: &mut Writer, table: &mut W, seat: &mut W:
             put_state(&mut writer.state, State::Between(fragment.end()));
             writer.follows_loss = false;
         }
-        State::Dropping { next_id } => {
-            put_state(&mut writer.state, State::Idle { next_id });
+        State::Dropping { next_position } => {
+            put_state(&mut writer.state, State::Idle { next_position });
             writer.follows_loss = true;
         }
-        State::Idle { next_id: _ } => unreachable!(),
+        State::Idle { next_position: _ } => unreachable!(),
         State::Between(_chunk) => unreachable!(),
-        State::Stalled { next_id: _ } => unreachable!(),
+        State::Stalled { next_position: _ } => unreachable!(),
     }
     writer.packet = None;
     table.note_call(seat, WriterCall::Finished);
@@ -68,15 +68,18 @@ pub(crate) fn flush<W: Words>(writer: &mut Writer, table: &mut W, seat: &mut W::
     }
     match take_state(&mut writer.state) {
         State::Between(chunk) => {
-            let next_id = chunk.held.id + 1;
-            let buffer = writer.route.spec.buffer;
-            chunk.complete(table, seat, &mut writer.pending, buffer, false);
-            put_state(&mut writer.state, State::Idle { next_id });
+            let next_position = chunk.held.position + 1;
+            let spec = writer.route.spec;
+            chunk.complete(table, seat, &mut writer.pending, spec, false);
+            put_state(&mut writer.state, State::Idle { next_position });
         }
-        State::Idle { next_id } => put_state(&mut writer.state, State::Idle { next_id }),
+        State::Idle { next_position } => put_state(
+            &mut writer.state,
+            State::Idle { next_position },
+        ),
         State::Writing(_fragment) => unreachable!(),
-        State::Dropping { next_id: _ } => unreachable!(),
-        State::Stalled { next_id: _ } => unreachable!(),
+        State::Dropping { next_position: _ } => unreachable!(),
+        State::Stalled { next_position: _ } => unreachable!(),
     }
     table.note_call(seat, WriterCall::Flushed);
 }

@@ -5,6 +5,6 @@ use crate::fragment::OpenFragment;
 pub(crate) enum Flow {
     Going(OpenFragment),
     /// No chunk was free: one that loses packets has given its own up, and one that stalls has no
-    /// chunk to go on in. The next chunk gets this id.
-    Stopped { next_id: u32 },
+    /// chunk to go on in. The next chunk gets this position.
+    Stopped { next_position: u32 },
 }

@@ -1,6 +1,6 @@
 //! A held chunk while a fragment is written into it.
 ghost use Rattle.std.specs.Prelude.{◌≡◌, ℕ, ◌+◌, ◌-◌, ◌*◌, ◌^◌, ◌<◌, ◌≤◌, false, true, [], ◌∷◌, ◌++◌, List, min, take, length, nat_le, vec_len, if◌then◌else◌};
-ghost use Rattle.chunk_plain.specs.declared.tokens.TheConstants.{ID_LIMIT};
+ghost use Rattle.chunk_plain.specs.declared.tokens.TheConstants.{POSITION_LIMIT};
 ghost use Rattle.std.specs.List.{repeat};
 ghost use Rattle.wire_varint.specs.Varint.{redundant};
 ghost use Rattle.trace_base.specs.declared.limits.TheConstants.{MAX_PACKET_LEN, MAX_OPEN_HOLES, MAX_PAGE_SIZE, MAX_FRAGMENTS};
@@ -37,7 +37,7 @@ pub(crate) struct OpenFragment {
     ghost small: { vec_len held.body.payload ≤ MAX_PAGE_SIZE },
     ghost few: { count ≤ MAX_FRAGMENTS },
     ghost empty: { held.body.patches.value.items ≡ [] },
-    ghost id_fits: { held.id < ID_LIMIT },
+    ghost position_fits: { held.position < POSITION_LIMIT },
 }
 
 impl OpenFragment {
@@ -134,13 +134,13 @@ impl OpenFragment {
         ensures none_added { result ≡ false → pending.new ≡ pending.old }
         ensures bytes { result ≡ true → IsPutInto self.old self.new self.old.at open_length }
         ensures at { result ≡ true → self.new.at ≡ self.old.at + 4 }
-        ensures added { result ≡ true → AddsHole pending.old pending.new self.old.held.id self.old.at }
+        ensures added { result ≡ true → AddsHole pending.old pending.new self.old.held.position self.old.at }
     {
         if self.held.body.payload.len() - (self.at as usize) < 4 {
             return false;
         }
         put_hole_at(&mut self.held.body.payload, self.at);
-        pending.add_hole(self.held.id, self.at);
+        pending.add_hole(self.held.position, self.at);
         self.at += 4;
         true
     }
@@ -180,12 +180,12 @@ impl OpenFragment {
     pub fn close_hole(&mut self, pending: &mut PatchList, value: u32)
         requires some_open { 0 < length pending.old.holes }
         requires fits { value < 2 ^ 28 }
-        requires room { length pending.old.unsent + holes_outside self.old.held.id pending.old.holes ≤ MAX_PATCHES }
-        requires here { (hole : _) (outer : _) → pending.old.holes ≡ outer ++ hole ∷ [] → hole.chunk_id ≡ self.old.held.id
+        requires room { length pending.old.unsent + holes_outside self.old.held.position pending.old.holes ≤ MAX_PATCHES }
+        requires here { (hole : _) (outer : _) → pending.old.holes ≡ outer ++ hole ∷ [] → hole.chunk_id ≡ self.old.held.position
             → hole.offset + 4 ≤ vec_len self.old.held.body.payload }
         ensures { AnswersClose self.old self.new pending.old pending.new value }
     {
-        if let Closed::Here { offset, bytes } = pending.close_hole(self.held.id, value) {
+        if let Closed::Here { offset, bytes } = pending.close_hole(self.held.position, value) {
             set_four_at(&mut self.held.body.payload, offset, bytes);
         }
     }
@@ -255,7 +255,7 @@ impl OpenFragment {
         } = self;
         let Held {
             chunk: _,
-            id: _,
+            position: _,
             body: _,
         } = held;
     }

@@ -1,10 +1,15 @@
 //! Laws on writers. The functions do nothing: a caller's proof has their clauses.
-ghost use Rattle.trace_writer.specs.Laws.{AgreeingIsCut, DropsNeverStall, NewestIsHeld, NothingIsKeptBack, HeldIsPublished};
+ghost use Rattle.trace_writer.specs.Laws.{AgreeingIsCut, AgreeingIsCutFrom, DropsNeverStall, NewestIsHeld, NothingIsKeptBack, HeldIsPublished};
 
 /// A writer that agrees with its view has cut its packets into its chunks; where it holds none, the
 /// last one runs on exactly where its newest packet goes on.
 pub fn agreeing_is_cut()
     ensures { AgreeingIsCut }
+{}
+
+/// What stands in its chunks and goes out with them is this cut under the ids of the writer's chunks.
+pub fn agreeing_is_cut_from()
+    ensures { AgreeingIsCutFrom }
 {}
 
 /// A writer that loses packets never stalls.

@@ -29,6 +29,7 @@ pub use fault::{Begun, CallFault};
 pub use helper::{HelperOn, NoHelp};
 pub use ids::PACKET_IDS;
 pub use laws::{
-    agreeing_is_cut, drops_never_stall, held_is_published, newest_is_held, nothing_is_kept_back,
+    agreeing_is_cut, agreeing_is_cut_from, drops_never_stall, held_is_published, newest_is_held,
+    nothing_is_kept_back,
 };
 pub use writer::WriterCore;

@@ -9,18 +9,18 @@ use crate::route::Route;
 use commit_body::PatchList;
 use std::mem;
 
-/// What a writer has of a chunk. Where it has none, the next one gets the id `next_id`.
+/// What a writer has of a chunk. Where it has none, the next one gets the position `next_position`.
 #[derive(Debug)]
 pub(crate) enum State {
     /// Between two packets, without a chunk.
-    Idle { next_id: u32 },
+    Idle { next_position: u32 },
     /// Between two packets.
     Between(HeldChunk),
     Writing(OpenFragment),
     /// The packet was dropped, at its begin or later.
-    Dropping { next_id: u32 },
+    Dropping { next_position: u32 },
     /// No chunk came free for the packet, or for the next one.
-    Stalled { next_id: u32 },
+    Stalled { next_position: u32 },
 }
 
 /// A writer without its seat.
@@ -42,7 +42,7 @@ pub(crate) struct Writer {
 pub(crate) fn is_stalled(state: &State) -> bool
     ensures { result ≡ is_stalled_state state.now }
 {
-    matches!(state, State::Stalled { next_id: _ })
+    matches!(state, State::Stalled { next_position: _ })
 }
 
 /// Takes the state out, and leaves one without a chunk.
@@ -50,7 +50,7 @@ pub(crate) fn take_state(state: &mut State) -> State
     ensures taken { result ≡ state.old }
     ensures left { state.new ≡ empty }
 {
-    mem::replace(state, State::Idle { next_id: 0 })
+    mem::replace(state, State::Idle { next_position: 0 })
 }
 
 /// Puts a state in the place of one without a chunk.
@@ -59,9 +59,9 @@ pub(crate) fn put_state(state: &mut State, new: State)
     ensures { state.new ≡ new }
 {
     match mem::replace(state, new) {
-        State::Idle { next_id: _ } => {}
-        State::Dropping { next_id: _ } => {}
-        State::Stalled { next_id: _ } => {}
+        State::Idle { next_position: _ } => {}
+        State::Dropping { next_position: _ } => {}
+        State::Stalled { next_position: _ } => {}
         State::Between(_chunk) => unreachable!(),
         State::Writing(_fragment) => unreachable!(),
     }

@@ -23,6 +23,7 @@ use chunk_plain::Words;
 use claim_arbiter::claim_over;
 use commit_body::PatchList;
 use std::sync::ledger::Ledger;
+use trace_base::ids::id_of;
 use trace_base::policy::WriterPolicy;
 use trace_base::steps::Steps;
 
@@ -80,14 +81,15 @@ fn run_on_or_drop<W: Words, L: Ledger>(
     ensures counts { steps.new + (length (W.means.view table.old seat.old).asked + length (W.means.view table.old seat.old).begun)
         ≡ steps.old + (length (W.means.view table.new seat.new).asked + length (W.means.view table.new seat.new).begun) }
 {
-    let next_id = fragment.held.id + 1;
-    let Some(next) = claim_over(&route.arbiter, table, seat, next_id, steps) else {
+    let next_position = fragment.held.position + 1;
+    let id = id_of(route.spec.from, next_position);
+    let Some(next) = claim_over(&route.arbiter, table, seat, id, steps) else {
         give_up(route, table, seat, pending, fragment);
-        return Flow::Stopped { next_id };
+        return Flow::Stopped { next_position };
     };
     fragment
         .end()
-        .complete(table, seat, pending, route.spec.buffer, true);
+        .complete(table, seat, pending, route.spec, true);
     Flow::Going(HeldChunk::new(next, true).start_fragment(table, seat))
 }
 
@@ -116,14 +118,14 @@ fn run_on_or_try<W: Words, L: Ledger, H: HelperOn<W>>(
     ensures work { IsWork W.means H.needs H.helps false
         route.now help.old table.old seat.old steps.old (is_stopped result) help.new table.new seat.new steps.new }
 {
-    let next_id = fragment.held.id + 1;
-    let Some(next) = claim_trying(route, table, seat, help, tries, next_id, steps) else {
+    let next_position = fragment.held.position + 1;
+    let Some(next) = claim_trying(route, table, seat, help, tries, next_position, steps) else {
         give_up(route, table, seat, pending, fragment);
-        return Flow::Stopped { next_id };
+        return Flow::Stopped { next_position };
     };
     fragment
         .end()
-        .complete(table, seat, pending, route.spec.buffer, true);
+        .complete(table, seat, pending, route.spec, true);
     Flow::Going(HeldChunk::new(next, true).start_fragment(table, seat))
 }
 
@@ -150,12 +152,12 @@ fn run_on_or_stall<W: Words, L: Ledger, H: HelperOn<W>>(
     ensures work { IsWork W.means H.needs H.helps false
         route.now help.old table.old seat.old steps.old (is_stopped result) help.new table.new seat.new steps.new }
 {
-    let next_id = fragment.held.id + 1;
+    let next_position = fragment.held.position + 1;
     let chunk = fragment.end();
-    chunk.complete(table, seat, pending, route.spec.buffer, true);
-    match claim_asking(route, table, seat, help, next_id, steps) {
+    chunk.complete(table, seat, pending, route.spec, true);
+    match claim_asking(route, table, seat, help, next_position, steps) {
         Some(next) => Flow::Going(HeldChunk::new(next, true).start_fragment(table, seat)),
-        None => Flow::Stopped { next_id },
+        None => Flow::Stopped { next_position },
     }
 }
 
@@ -183,7 +185,7 @@ fn give_up<W: Words>(
     }
     fragment
         .end_dropped()
-        .complete(table, seat, pending, route.spec.buffer, false);
+        .complete(table, seat, pending, route.spec, false);
 }
 
 /// Writes a piece of the packet, over as many chunks as it takes.
@@ -218,7 +220,7 @@ pub(crate) fn put_piece<W: Words, L: Ledger, H: HelperOn<W>>(
         }
         match run_on(route, table, seat, help, pending, fragment, steps) {
             Flow::Going(next) => fragment = next,
-            Flow::Stopped { next_id } => return Flow::Stopped { next_id },
+            Flow::Stopped { next_position } => return Flow::Stopped { next_position },
         }
     }
 }
@@ -255,7 +257,7 @@ pub(crate) fn put_times<W: Words, L: Ledger, H: HelperOn<W>>(
         }
         match put_piece(route, table, seat, help, pending, fragment, piece, steps) {
             Flow::Going(next) => fragment = next,
-            Flow::Stopped { next_id } => return Flow::Stopped { next_id },
+            Flow::Stopped { next_position } => return Flow::Stopped { next_position },
         }
     }
     Flow::Going(fragment)
@@ -292,7 +294,7 @@ pub(crate) fn put_length<W: Words, L: Ledger, H: HelperOn<W>>(
             next.put_hole(pending);
             Flow::Going(next)
         }
-        Flow::Stopped { next_id } => Flow::Stopped { next_id },
+        Flow::Stopped { next_position } => Flow::Stopped { next_position },
     }
 }
 
@@ -324,7 +326,7 @@ pub(crate) fn put_field<W: Words, L: Ledger, H: HelperOn<W>>(
 {
     match put_piece(route, table, seat, help, pending, fragment, head, steps) {
         Flow::Going(next) => put_times(route, table, seat, help, pending, next, text, times, steps),
-        Flow::Stopped { next_id } => Flow::Stopped { next_id },
+        Flow::Stopped { next_position } => Flow::Stopped { next_position },
     }
 }
 
@@ -354,6 +356,6 @@ pub(crate) fn put_nested<W: Words, L: Ledger, H: HelperOn<W>>(
 {
     match put_piece(route, table, seat, help, pending, fragment, tag, steps) {
         Flow::Going(next) => put_length(route, table, seat, help, pending, next, steps),
-        Flow::Stopped { next_id } => Flow::Stopped { next_id },
+        Flow::Stopped { next_position } => Flow::Stopped { next_position },
     }
 }

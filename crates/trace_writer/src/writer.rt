@@ -1,6 +1,6 @@
 //! A writer with its seat: what its callers have.
 ghost use Rattle.std.specs.Prelude.{◌≡◌, ℕ, ◌+◌, ◌-◌, ◌*◌, ◌<◌, ◌≤◌, Bool, true, false, Some, None, [], ◌∷◌, ◌++◌, length, slice_get, IfOk, IfErr, MatchResult};
-ghost use Rattle.chunk_plain.specs.declared.tokens.TheConstants.{ID_LIMIT};
+ghost use Rattle.chunk_plain.specs.declared.tokens.TheConstants.{POSITION_LIMIT};
 ghost use Rattle.trace_writer.specs.declared.ids.TheConstants.{PACKET_IDS};
 ghost use Rattle.trace_base.specs.declared.limits.TheConstants.{MAX_FIELD, MAX_INPUT, MAX_OPEN_HOLES};
 ghost use Rattle.trace_base.specs.declared.policy.WriterPolicy.TheVariants.{Drops};
@@ -70,7 +70,7 @@ impl<S> WriterCore<S> {
                 arbiter,
                 payload_size,
             },
-            state: State::Idle { next_id: 0 },
+            state: State::Idle { next_position: 0 },
             packet: None,
             pending: PatchList::new(),
             follows_loss: false,
@@ -92,7 +92,7 @@ impl<S> WriterCore<S> {
         requires agrees { CoreAgrees (W.means.setup table.old) (W.means.place self.old.seat) (W.means.view table.old self.old.seat)
             self.old }
         requires none_begun { in_packet (W.means.view table.old self.old.seat) ≡ false }
-        requires ids { length (W.means.view table.old self.old.seat).begun + PACKET_IDS ≤ ID_LIMIT }
+        requires ids { length (W.means.view table.old self.old.seat).begun + PACKET_IDS ≤ POSITION_LIMIT }
         ensures agrees { CoreAgrees (W.means.setup table.old) (W.means.place self.old.seat) (W.means.view table.new self.new.seat)
             self.new }
         ensures needs { H.needs help.new table.new }
@@ -346,19 +346,19 @@ impl<S> WriterCore<S> {
         flush(&mut self.writer, table, &mut self.seat);
     }
 
-    /// Chunk ids that are left.
+    /// Chunk ids that are left: the writer can begin so many chunks more.
     pub fn ids_left(&self) -> u64
         ensures { (setup : Setup) (place : ℕ) (view : WriterView) → CoreAgrees setup place view self.now
-            → result ≡ ID_LIMIT - length view.begun }
+            → result ≡ POSITION_LIMIT - length view.begun }
     {
-        let next_id = match &self.writer.state {
-            State::Between(chunk) => chunk.held.id + 1,
-            State::Writing(fragment) => fragment.held.id + 1,
-            State::Idle { next_id } => *next_id,
-            State::Dropping { next_id } => *next_id,
-            State::Stalled { next_id } => *next_id,
+        let next_position = match &self.writer.state {
+            State::Between(chunk) => chunk.held.position + 1,
+            State::Writing(fragment) => fragment.held.position + 1,
+            State::Idle { next_position } => *next_position,
+            State::Dropping { next_position } => *next_position,
+            State::Stalled { next_position } => *next_position,
         };
-        u64::from(u32::MAX - next_id)
+        u64::from(u32::MAX - next_position)
     }
 
     /// Packets that were begun.
@@ -383,11 +383,11 @@ impl<S> WriterCore<S> {
             → result ≡ length (completed_images view.begun) }
     {
         match &self.writer.state {
-            State::Between(chunk) => chunk.held.id,
-            State::Writing(fragment) => fragment.held.id,
-            State::Idle { next_id } => *next_id,
-            State::Dropping { next_id } => *next_id,
-            State::Stalled { next_id } => *next_id,
+            State::Between(chunk) => chunk.held.position,
+            State::Writing(fragment) => fragment.held.position,
+            State::Idle { next_position } => *next_position,
+            State::Dropping { next_position } => *next_position,
+            State::Stalled { next_position } => *next_position,
         }
     }
 
@@ -445,8 +445,8 @@ impl<S> WriterCore<S> {
 /// Lets go of a state, and of its chunk.
 fn drop_state(state: State) {
     match state {
-        State::Idle { next_id: _ } | State::Dropping { next_id: _ } => {}
-        State::Stalled { next_id: _ } => {}
+        State::Idle { next_position: _ } | State::Dropping { next_position: _ } => {}
+        State::Stalled { next_position: _ } => {}
         State::Between(chunk) => chunk.drop_chunk(),
         State::Writing(fragment) => fragment.drop_chunk(),
     }

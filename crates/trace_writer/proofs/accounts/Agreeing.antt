@@ -136,10 +136,10 @@ pub writing_agrees : (setup : Setup) (place : ℕ) (view : WriterView) (writer :
 writing_agrees setup place view writer fragment a state_is =
     subst (λ (s : State). StateAgrees (site_of setup place writer.route) (account_of view.calls) view writer.pending s) state_is a.state
 
-pub dropping_agrees : (setup : Setup) (place : ℕ) (view : WriterView) (writer : Writer) (next_id : ℕ) → Agrees setup place view writer
-    → writer.state ≡ Dropping next_id
-    → (next_id ≡ length view.begun) × IsThrownAway (site_of setup place writer.route) (account_of view.calls) view writer.pending
-dropping_agrees setup place view writer next_id a state_is =
+pub dropping_agrees : (setup : Setup) (place : ℕ) (view : WriterView) (writer : Writer) (next_position : ℕ) → Agrees setup place view writer
+    → writer.state ≡ Dropping next_position
+    → (next_position ≡ length view.begun) × IsThrownAway (site_of setup place writer.route) (account_of view.calls) view writer.pending
+dropping_agrees setup place view writer next_position a state_is =
     subst (λ (s : State). StateAgrees (site_of setup place writer.route) (account_of view.calls) view writer.pending s) state_is a.state
 
 -- a call went on in this fragment
@@ -172,15 +172,15 @@ agrees_writing setup place view new before fragment next pending open_one later_
     })
 
 -- a call of a packet that is thrown away
-pub agrees_dropping : (setup : Setup) (place : ℕ) (view new : WriterView) (before : Writer) (state : State) (next_id : ℕ)
+pub agrees_dropping : (setup : Setup) (place : ℕ) (view new : WriterView) (before : Writer) (state : State) (next_position : ℕ)
     (open_one later_one : OpenPacket) (count : ℕ) (change : Packet → Packet) (call : Call)
-    → Agrees setup place view before → before.state ≡ Dropping next_id → state ≡ Dropping next_id → before.packet ≡ Some open_one → Grows change count
+    → Agrees setup place view before → before.state ≡ Dropping next_position → state ≡ Dropping next_position → before.packet ≡ Some open_one → Grows change count
     → ((packet : Packet) → 0 < length packet.text.levels → IsMeasured open_one packet → IsMeasured later_one (change packet))
     → ((account : Account) → noted account call ≡ on_newest change account) → new ≡ notes_call view call
     → Agrees setup place new (record before { state = state; packet = Some later_one })
-agrees_dropping setup place view new before state next_id open_one later_one count change call a was state_is packet_is grows measures noted_is new_is =
+agrees_dropping setup place view new before state next_position open_one later_one count change call a was state_is packet_is grows measures noted_is new_is =
     let site : Site = site_of setup place before.route in
-    let both : (next_id ≡ length view.begun) × IsThrownAway site (account_of view.calls) view before.pending = dropping_agrees setup place view before next_id a was in
+    let both : (next_position ≡ length view.begun) × IsThrownAway site (account_of view.calls) view before.pending = dropping_agrees setup place view before next_position a was in
     let thrown : IsThrownAway site (account_of view.calls) view before.pending = both.1 in
     let packet : Packet = thrown.packet in
     let is : IsOpen view open_one packet = open_newest setup place view before open_one packet thrown.older a packet_is thrown.packets in
@@ -218,13 +218,13 @@ stuck_seen site packets view new begun stuck = record {
 
 -- a call stopped, and its writer gave the packet up
 agrees_lost : (setup : Setup) (place : ℕ) (view mid new : WriterView) (before after : Writer) (state : State) (pending : Pending)
-    (next_id : ℕ) (open_one later_one : OpenPacket) (packet : Packet) (older : List Packet) (count : ℕ) (change : Packet → Packet) (call : Call)
+    (next_position : ℕ) (open_one later_one : OpenPacket) (packet : Packet) (older : List Packet) (count : ℕ) (change : Packet → Packet) (call : Call)
     → Agrees setup place view before → before.packet ≡ Some open_one
     → (account_of view.calls).packets ≡ packet ∷ older → (account_of view.calls).flushed ≡ false → Grows change count
     → IsMeasured later_one (change packet) → ((account : Account) → noted account call ≡ on_newest change account)
-    → mid.calls ≡ view.calls → next_id ≡ length mid.begun → StopsAs Drops (site_of setup place before.route) (change packet) older mid pending
-    → StopsBehind Drops (record before { state = state; packet = Some later_one; pending = pending }) after mid new call next_id → Agrees setup place new after
-agrees_lost setup place view mid new before after state pending next_id open_one later_one packet older count change call a packet_is newest unflushed grows measured noted_is calls id stops goes =
+    → mid.calls ≡ view.calls → next_position ≡ length mid.begun → StopsAs Drops (site_of setup place before.route) (change packet) older mid pending
+    → StopsBehind Drops (record before { state = state; packet = Some later_one; pending = pending }) after mid new call next_position → Agrees setup place new after
+agrees_lost setup place view mid new before after state pending next_position open_one later_one packet older count change call a packet_is newest unflushed grows measured noted_is calls position stops goes =
     let site : Site = site_of setup place before.route in
     let is : IsOpen view open_one packet = open_newest setup place view before open_one packet older a packet_is newest in
     let later : Packet = given_up_packet (change packet) in
@@ -233,10 +233,10 @@ agrees_lost setup place view mid new before after state pending next_id open_one
     (ap (λ (v : WriterView). v.calls) goes.1 ∙ ap (λ (before_calls : List Call). (before_calls ++ call ∷ []) ++ GivenUp ∷ []) calls) newest unflushed noted_is in
     let begun : new.begun ≡ mid.begun = ap (λ (v : WriterView). v.begun) goes.1 in
     subst (λ (one : Writer). Agrees setup place new one) (sym goes.0)
-    (agrees_changed setup place view new before (record before { state = Dropping next_id; packet = Some later_one; pending = pending }) open_one later_one packet later
+    (agrees_changed setup place view new before (record before { state = Dropping next_position; packet = Some later_one; pending = pending }) open_one later_one packet later
     older a newest (ap (λ (account : Account). account.packets) account_is) (grows.kept packet) (grows.finished packet ∙ is.unfinished) refl refl refl refl
     (record { len = measured.len; starts = measured.starts }) refl (
-      id ∙ sym (ap length begun),
+      position ∙ sym (ap length begun),
       record {
         packet = later;
         older = older;
@@ -250,15 +250,15 @@ agrees_lost setup place view mid new before after state pending next_id open_one
 
 -- a call stopped: its writer gave the packet up, or stalls
 agrees_stopped : (policy : WriterPolicy) (setup : Setup) (place : ℕ) (view mid new : WriterView) (before after : Writer) (state : State) (pending : Pending)
-    (next_id : ℕ) (open_one later_one : OpenPacket) (packet : Packet) (older : List Packet) (count : ℕ) (change : Packet → Packet) (call : Call)
+    (next_position : ℕ) (open_one later_one : OpenPacket) (packet : Packet) (older : List Packet) (count : ℕ) (change : Packet → Packet) (call : Call)
     → Agrees setup place view before → before.packet ≡ Some open_one
     → (account_of view.calls).packets ≡ packet ∷ older → (account_of view.calls).flushed ≡ false → Grows change count
     → IsMeasured later_one (change packet) → ((account : Account) → noted account call ≡ on_newest change account)
-    → mid.calls ≡ view.calls → next_id ≡ length mid.begun → StopsAs policy (site_of setup place before.route) (change packet) older mid pending
-    → StopsBehind policy (record before { state = state; packet = Some later_one; pending = pending }) after mid new call next_id → Agrees setup place new after
-agrees_stopped Drops setup place view mid new before after state pending next_id open_one later_one packet older count change call a packet_is newest unflushed grows measured noted_is calls id stops goes =
-    agrees_lost setup place view mid new before after state pending next_id open_one later_one packet older count change call a packet_is newest unflushed grows measured noted_is calls id stops goes
-agrees_stopped Stalls setup place view mid new before after state pending next_id open_one later_one packet older count change call a packet_is newest unflushed grows measured noted_is calls id stops goes =
+    → mid.calls ≡ view.calls → next_position ≡ length mid.begun → StopsAs policy (site_of setup place before.route) (change packet) older mid pending
+    → StopsBehind policy (record before { state = state; packet = Some later_one; pending = pending }) after mid new call next_position → Agrees setup place new after
+agrees_stopped Drops setup place view mid new before after state pending next_position open_one later_one packet older count change call a packet_is newest unflushed grows measured noted_is calls position stops goes =
+    agrees_lost setup place view mid new before after state pending next_position open_one later_one packet older count change call a packet_is newest unflushed grows measured noted_is calls position stops goes
+agrees_stopped Stalls setup place view mid new before after state pending next_position open_one later_one packet older count change call a packet_is newest unflushed grows measured noted_is calls position stops goes =
     let site : Site = site_of setup place before.route in
     let is : IsOpen view open_one packet = open_newest setup place view before open_one packet older a packet_is newest in
     let account_is : account_of new.calls ≡ record { packets = change packet ∷ older; flushed = false } =
@@ -267,13 +267,13 @@ agrees_stopped Stalls setup place view mid new before after state pending next_i
     let begun : new.begun ≡ mid.begun = ap (λ (v : WriterView). v.begun) goes.1 in
     let newer : (account_of new.calls).packets ≡ change packet ∷ older = ap (λ (account : Account). account.packets) account_is in
     subst (λ (one : Writer). Agrees setup place new one) (sym goes.0)
-    (agrees_changed setup place view new before (record before { state = Stalled next_id; packet = Some later_one; pending = pending }) open_one later_one packet (change packet)
+    (agrees_changed setup place view new before (record before { state = Stalled next_position; packet = Some later_one; pending = pending }) open_one later_one packet (change packet)
     older a newest newer (grows.kept packet) (grows.finished packet ∙ is.unfinished) refl refl refl refl measured refl (
-      id ∙ sym (ap length begun),
+      position ∙ sym (ap length begun),
       subst (λ (packets : List Packet). IsStuck site packets new) (sym newer) (stuck_seen site (change packet ∷ older) mid new begun stops),
     ))
-agrees_stopped (StallsThenDrops tries) setup place view mid new before after state pending next_id open_one later_one packet older count change call a packet_is newest unflushed grows measured noted_is calls id stops goes =
-    agrees_lost setup place view mid new before after state pending next_id open_one later_one packet older count change call a packet_is newest unflushed grows measured noted_is calls id stops goes
+agrees_stopped (StallsThenDrops tries) setup place view mid new before after state pending next_position open_one later_one packet older count change call a packet_is newest unflushed grows measured noted_is calls position stops goes =
+    agrees_lost setup place view mid new before after state pending next_position open_one later_one packet older count change call a packet_is newest unflushed grows measured noted_is calls position stops goes
 
 pub agrees_behind : (setup : Setup) (place : ℕ) (view mid new : WriterView) (before after : Writer) (state : State) (pending : Pending) (fragment : OpenFragment)
     (open_one later_one : OpenPacket) (count : ℕ) (change : Packet → Packet) (call : Call) (way : Flow)
@@ -293,16 +293,16 @@ agrees_behind setup place view mid new before after state pending fragment open_
     (ap (λ (v : WriterView). v.calls) goes.1 ∙ ap (λ (calls : List Call). calls ++ call ∷ []) writes.calls)
     (inside_seen site (change w.packet) w.older mid new pending next [] (ap (λ (v : WriterView). v.begun) goes.1) (writes.keeps w.packet w.older w.inside))
     (writes.byte w.byte) w.ids writes.ids)
-agrees_behind setup place view mid new before after state pending fragment open_one later_one count change call (flow.Stopped next_id) a was packet_is grows measures fits noted_is writes goes =
+agrees_behind setup place view mid new before after state pending fragment open_one later_one count change call (flow.Stopped next_position) a was packet_is grows measures fits noted_is writes goes =
     let site : Site = site_of setup place before.route in
     let w : IsWritingInto site (account_of view.calls) view before.pending fragment = writing_agrees setup place view before fragment a was in
     let is : IsOpen view open_one w.packet = open_newest setup place view before open_one w.packet w.older a packet_is w.packets in
-    agrees_stopped before.route.spec.policy setup place view mid new before after state pending next_id open_one later_one w.packet w.older count change call a packet_is
+    agrees_stopped before.route.spec.policy setup place view mid new before after state pending next_position open_one later_one w.packet w.older count change call a packet_is
     w.packets w.unflushed grows (measures w.packet is.some is.measured) noted_is writes.0.calls writes.1 (writes.0.stopped w.packet w.older w.inside) goes
 
-noted_lost : (old after : Writer) (mid new : WriterView) (call : Call) (next_id : ℕ) → StopsBehind Drops old after mid new call next_id
+noted_lost : (old after : Writer) (mid new : WriterView) (call : Call) (next_position : ℕ) → StopsBehind Drops old after mid new call next_position
     → (new.calls ≡ mid.calls ++ written_as true Drops call) × (is_stalled after.state ≡ false)
-noted_lost old after mid new call next_id stops =
+noted_lost old after mid new call next_position stops =
     (ap (λ (v : WriterView). v.calls) stops.1 ∙ append_assoc mid.calls (call ∷ []) (GivenUp ∷ []), ap (λ (one : Writer). is_stalled one.state) stops.0)
 
 -- what is noted, and whether the writer stalls
@@ -310,18 +310,18 @@ noted_behind : (policy : WriterPolicy) (old after : Writer) (mid new : WriterVie
     → (new.calls ≡ mid.calls ++ written_as (is_stopped way) policy call) × (is_stalled after.state ≡ refuses policy (is_stopped way))
 noted_behind policy old after mid new call (flow.Going next) is goes =
     (ap (λ (v : WriterView). v.calls) goes.1, ap (λ (one : Writer). is_stalled one.state) goes.0 ∙ sym (refuses_none policy))
-noted_behind Drops old after mid new call (flow.Stopped next_id) is goes =
-    noted_lost old after mid new call next_id (subst (λ (policy : WriterPolicy). StopsBehind policy old after mid new call next_id) is goes)
-noted_behind Stalls old after mid new call (flow.Stopped next_id) is goes =
-    let stops : StopsBehind Stalls old after mid new call next_id = subst (λ (policy : WriterPolicy). StopsBehind policy old after mid new call next_id) is goes in
+noted_behind Drops old after mid new call (flow.Stopped next_position) is goes =
+    noted_lost old after mid new call next_position (subst (λ (policy : WriterPolicy). StopsBehind policy old after mid new call next_position) is goes)
+noted_behind Stalls old after mid new call (flow.Stopped next_position) is goes =
+    let stops : StopsBehind Stalls old after mid new call next_position = subst (λ (policy : WriterPolicy). StopsBehind policy old after mid new call next_position) is goes in
     (ap (λ (v : WriterView). v.calls) stops.1, ap (λ (one : Writer). is_stalled one.state) stops.0)
-noted_behind (StallsThenDrops tries) old after mid new call (flow.Stopped next_id) is goes =
-    noted_lost old after mid new call next_id (subst (λ (policy : WriterPolicy). StopsBehind policy old after mid new call next_id) is goes)
+noted_behind (StallsThenDrops tries) old after mid new call (flow.Stopped next_position) is goes =
+    noted_lost old after mid new call next_position (subst (λ (policy : WriterPolicy). StopsBehind policy old after mid new call next_position) is goes)
 
 writes_calls : (setup : Setup) (place : ℕ) (route : Route) (view mid : WriterView) (before pending : Pending) (fragment : OpenFragment)
     (count : ℕ) (change : Packet → Packet) (way : Flow) → Writes setup place route view mid before pending fragment count change way → mid.calls ≡ view.calls
 writes_calls setup place route view mid before pending fragment count change (flow.Going next) writes = writes.calls
-writes_calls setup place route view mid before pending fragment count change (flow.Stopped next_id) writes = writes.0.calls
+writes_calls setup place route view mid before pending fragment count change (flow.Stopped next_position) writes = writes.0.calls
 
 pub notes_behind : (setup : Setup) (place : ℕ) (view mid new : WriterView) (before : Writer) (old after : Writer) (pending : Pending) (fragment : OpenFragment)
     (count : ℕ) (change : Packet → Packet) (call : Call) (way : Flow) → old.route ≡ before.route

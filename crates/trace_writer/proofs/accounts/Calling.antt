@@ -46,7 +46,7 @@ pub writes_behind : (setup : Setup) (place : ℕ) (route : Route) (old mid new :
 writes_behind setup place route old mid new before between after fragment now one two count (Going next) count_is first second =
     puts_write (site_of setup place route) old new before after fragment next (one ++ two) count count_is
     (puts_both (site_of setup place route) old mid new before between after fragment now next one two first second)
-writes_behind setup place route old mid new before between after fragment now one two count (Stopped next_id) count_is first lost = (
+writes_behind setup place route old mid new before between after fragment now one two count (Stopped next_position) count_is first lost = (
   lost_write (site_of setup place route) old new before after fragment (one ++ two)
       (lost_behind (site_of setup place route) old mid new before between after fragment now one two [] (one ++ two)
       (ap (λ (xs : List ℕ). one ++ xs) (sym (append-nil two))) first lost.0),
@@ -66,7 +66,7 @@ writes_nested setup place route old mid new before between after fragment now ta
   ids = λ further h. second.ids further (first.ids (4 + further) (subst (λ (n : ℕ). HasIds fragment n) (omega arith) h));
   byte = λ h. second.byte;
 }
-writes_nested setup place route old mid new before between after fragment now tag (Stopped next_id) first lost = (
+writes_nested setup place route old mid new before between after fragment now tag (Stopped next_position) first lost = (
   record {
     calls = lost.0.calls ∙ first.calls;
     stopped = λ packet older i. lost.0.stopped (with_more tag packet) older (first.keeps packet older i);

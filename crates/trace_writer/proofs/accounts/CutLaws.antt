@@ -9,10 +9,11 @@ use Rattle.trace_model.specs.Pages.{Page, laid, image_of, images_from}
 use Rattle.trace_model.specs.Row.{Chain, bytes_of}
 use Rattle.trace_model.specs.Cut.{IsWellFormedPage, IsChainOf, IsGivenUp, Begins, CutsInto, newest_goes_on}
 use Rattle.trace_model.specs.Written.{chains_of}
+use Rattle.trace_model.proofs.NamingLemmas.{cut_named}
 use Rattle.commit_body.specs.declared.hole.Hole.{Hole}
 use Rattle.commit_body.specs.Patches.{hole_chunks, with_lasts}
 use Rattle.commit_body.specs.Pending.{Pending}
-use Rattle.chunk_plain.specs.Setup.{Setup}
+use Rattle.chunk_plain.specs.Setup.{Setup, from_of}
 use Rattle.chunk_plain.specs.Views.{BegunChunk, Held, Completed, Content, WriterView, Draft}
 use Rattle.cut_steps.specs.RawChains.{raw_chains, page_with, offset_behind}
 use Rattle.cut_steps.specs.Between.{IsBetween}
@@ -30,10 +31,10 @@ use Rattle.trace_writer.specs.Site.{Site, site_of}
 use Rattle.trace_writer.specs.Filled.{ShowsPages, HasByte}
 use Rattle.trace_writer.specs.States.{InFragment, IsIdle, IsBehind, IsStuck}
 use Rattle.trace_writer.specs.Agreement.{StateAgrees, IsInPacketOf, is_begun, is_inside}
-use Rattle.trace_writer.specs.Laws.{AgreeingIsCut, NothingIsKeptBack}
+use Rattle.trace_writer.specs.Laws.{AgreeingIsCut, NothingIsKeptBack, AgreeingIsCutFrom}
 use Rattle.trace_writer.specs.Empty.{is_stalled}
 use Rattle.chunk_plain.specs.Histories.{completed_images, completed_patches}
-use Rattle.trace_writer.specs.Outcomes.{held_image, fragment_payload, held_images, held_patches, newest_bytes, HasCut, NewestIsWhole}
+use Rattle.trace_writer.specs.Outcomes.{held_image, fragment_payload, held_images, held_patches, images_so_far, patches_so_far, newest_bytes, HasCut, NewestIsWhole}
 use Rattle.trace_writer.proofs.packets.Finishing.{laid_all}
 use Rattle.trace_writer.proofs.holding.Holes.{lasts_reverse}
 use Rattle.trace_writer.proofs.stops.Idling.{ended_page}
@@ -45,25 +46,25 @@ patches_in pages = map (λ (page : Page). page.patches) pages
 
 -- Completed chunks
 
-shown_images : (site : Site) (id : ℕ) (begun : List BegunChunk) (pages : List Page) → ShowsPages site id begun pages
-    → completed_images begun ≡ images_from (site.place + 2) id pages
-shown_images site id [] [] shown = refl
-shown_images site id [] (page ∷ pages) shown = absurd shown
-shown_images site id (Held chunk head ∷ begun) pages shown = absurd shown
-shown_images site id (Completed chunk content ∷ begun) [] shown = absurd shown
-shown_images site id (Completed chunk content ∷ begun) (page ∷ pages) shown =
+shown_images : (site : Site) (position : ℕ) (begun : List BegunChunk) (pages : List Page) → ShowsPages site position begun pages
+    → completed_images begun ≡ images_from (site.place + 2) position pages
+shown_images site position [] [] shown = refl
+shown_images site position [] (page ∷ pages) shown = absurd shown
+shown_images site position (Held chunk head ∷ begun) pages shown = absurd shown
+shown_images site position (Completed chunk content ∷ begun) [] shown = absurd shown
+shown_images site position (Completed chunk content ∷ begun) (page ∷ pages) shown =
     ap (λ (c : Content). c.image ∷ completed_images begun) shown.0
-    ∙ ap (λ (images : List Image). image_of (site.place + 2) id page ∷ images) (shown_images site (suc id) begun pages shown.1)
+    ∙ ap (λ (images : List Image). image_of (site.place + 2) position page ∷ images) (shown_images site (suc position) begun pages shown.1)
 
-shown_patches : (site : Site) (id : ℕ) (begun : List BegunChunk) (pages : List Page) → ShowsPages site id begun pages
+shown_patches : (site : Site) (position : ℕ) (begun : List BegunChunk) (pages : List Page) → ShowsPages site position begun pages
     → completed_patches begun ≡ patches_in pages
-shown_patches site id [] [] shown = refl
-shown_patches site id [] (page ∷ pages) shown = absurd shown
-shown_patches site id (Held chunk head ∷ begun) pages shown = absurd shown
-shown_patches site id (Completed chunk content ∷ begun) [] shown = absurd shown
-shown_patches site id (Completed chunk content ∷ begun) (page ∷ pages) shown =
+shown_patches site position [] [] shown = refl
+shown_patches site position [] (page ∷ pages) shown = absurd shown
+shown_patches site position (Held chunk head ∷ begun) pages shown = absurd shown
+shown_patches site position (Completed chunk content ∷ begun) [] shown = absurd shown
+shown_patches site position (Completed chunk content ∷ begun) (page ∷ pages) shown =
     ap (λ (c : Content). c.patches ∷ completed_patches begun) shown.0
-    ∙ ap (λ (lists : List (List Patch)). page.patches ∷ lists) (shown_patches site (suc id) begun pages shown.1)
+    ∙ ap (λ (lists : List (List Patch)). page.patches ∷ lists) (shown_patches site (suc position) begun pages shown.1)
 
 -- a held chunk behind them is none of them
 pub images_held : (completed : List BegunChunk) (chunk : ℕ) (head : Draft) → completed_images (completed ++ Held chunk head ∷ []) ≡ completed_images completed
@@ -76,13 +77,13 @@ patches_held [] chunk head = refl
 patches_held (Held c h ∷ begun) chunk head = patches_held begun chunk head
 patches_held (Completed c content ∷ begun) chunk head = ap (λ (lists : List (List Patch)). content.patches ∷ lists) (patches_held begun chunk head)
 
-images_one : (sequence id : ℕ) (pages : List Page) (page : Page)
-    → images_from sequence id (pages ++ page ∷ []) ≡ images_from sequence id pages ++ image_of sequence (id + length pages) page ∷ []
-images_one sequence id [] page = ap (λ (i : ℕ). image_of sequence i page ∷ []) (omega arith)
-images_one sequence id (one ∷ pages) page =
-    ap (λ (images : List Image). image_of sequence id one ∷ images)
-    (images_one sequence (suc id) pages page
-    ∙ ap (λ (i : ℕ). images_from sequence (suc id) pages ++ image_of sequence i page ∷ []) (omega arith))
+images_one : (sequence position : ℕ) (pages : List Page) (page : Page)
+    → images_from sequence position (pages ++ page ∷ []) ≡ images_from sequence position pages ++ image_of sequence (position + length pages) page ∷ []
+images_one sequence position [] page = ap (λ (i : ℕ). image_of sequence i page ∷ []) (omega arith)
+images_one sequence position (one ∷ pages) page =
+    ap (λ (images : List Image). image_of sequence position one ∷ images)
+    (images_one sequence (suc position) pages page
+    ∙ ap (λ (i : ℕ). images_from sequence (suc position) pages ++ image_of sequence i page ∷ []) (omega arith))
 
 -- No chunk is held
 
@@ -113,16 +114,16 @@ stuck_cut site view stuck = record {
 
 -- A chunk is held: it is the last page
 
-held_cut : (site : Site) (view : WriterView) (completed : List BegunChunk) (pages : List Page) (page : Page) (chunk id : ℕ) (head : Draft) (image : Image)
-    → view.begun ≡ completed ++ Held chunk head ∷ [] → ShowsPages site 0 completed pages → id ≡ length pages → image ≡ image_of (site.place + 2) id page
+held_cut : (site : Site) (view : WriterView) (completed : List BegunChunk) (pages : List Page) (page : Page) (chunk position : ℕ) (head : Draft) (image : Image)
+    → view.begun ≡ completed ++ Held chunk head ∷ [] → ShowsPages site 0 completed pages → position ≡ length pages → image ≡ image_of (site.place + 2) position page
     → CutsInto site.size (account_of view.calls).packets (pages ++ page ∷ [])
     → HasCut site.size (site.place + 2) view.calls (completed_images view.begun ++ image ∷ []) (completed_patches view.begun ++ page.patches ∷ []) (image ∷ [])
-held_cut site view completed pages page chunk id head image begun shown id_is image_is cut = record {
+held_cut site view completed pages page chunk position head image begun shown position_is image_is cut = record {
   cut = record {
     pages = pages ++ page ∷ [];
     images_are = ap (λ (xs : List BegunChunk). completed_images xs ++ image ∷ []) begun
         ∙ ap (λ (images : List Image). images ++ image ∷ []) (images_held completed chunk head ∙ shown_images site 0 completed pages shown)
-        ∙ ap (λ (i : Image). images_from (site.place + 2) 0 pages ++ i ∷ []) (image_is ∙ ap (λ (i : ℕ). image_of (site.place + 2) i page) (omega (arith, id_is)))
+        ∙ ap (λ (i : Image). images_from (site.place + 2) 0 pages ++ i ∷ []) (image_is ∙ ap (λ (i : ℕ). image_of (site.place + 2) i page) (omega (arith, position_is)))
         ∙ sym (images_one (site.place + 2) 0 pages page);
     patches_are = ap (λ (xs : List BegunChunk). completed_patches xs ++ page.patches ∷ []) begun
         ∙ ap (λ (lists : List (List Patch)). lists ++ page.patches ∷ []) (patches_held completed chunk head ∙ shown_patches site 0 completed pages shown)
@@ -133,17 +134,17 @@ held_cut site view completed pages page chunk id head image begun shown id_is im
 }
 
 -- its image, by what the page has
-held_image_is : (site : Site) (id count : ℕ) (payload : List ℕ) (continues : Bool) (fragments : List (List ℕ)) (rest : List ℕ) (patches : List Patch)
+held_image_is : (site : Site) (position count : ℕ) (payload : List ℕ) (continues : Bool) (fragments : List (List ℕ)) (rest : List ℕ) (patches : List Patch)
     → count ≡ length fragments → payload ≡ laid false fragments rest
-    → held_image site.place id count continues payload ≡ image_of (site.place + 2) id (ended_page continues fragments rest patches)
-held_image_is site id count payload continues fragments rest patches count_is payload_is =
-    ap (λ (c : Content). c.image) (content_is site id count payload (ended_page continues fragments rest patches) count_is payload_is)
+    → held_image site.place position count continues payload ≡ image_of (site.place + 2) position (ended_page continues fragments rest patches)
+held_image_is site position count payload continues fragments rest patches count_is payload_is =
+    ap (λ (c : Content). c.image) (content_is site position count payload (ended_page continues fragments rest patches) count_is payload_is)
 
 between_is_cut : (site : Site) (view : WriterView) (pending : Pending) (chunk : HeldChunk) → IsBehind site (account_of view.calls) view pending chunk
     → HasCut site.size (site.place + 2) view.calls
-    (completed_images view.begun ++ held_image site.place chunk.held.id chunk.count chunk.continues chunk.held.body.payload.items ∷ [])
+    (completed_images view.begun ++ held_image site.place chunk.held.position chunk.count chunk.continues chunk.held.body.payload.items ∷ [])
     (completed_patches view.begun ++ with_lasts (hole_chunks pending.holes) pending.unsent ∷ [])
-    (held_image site.place chunk.held.id chunk.count chunk.continues chunk.held.body.payload.items ∷ [])
+    (held_image site.place chunk.held.position chunk.count chunk.continues chunk.held.body.payload.items ∷ [])
 between_is_cut site view pending chunk behind =
     let fragments : List (List ℕ) = behind.first ∷ behind.others in
     let patches : List Patch = with_lasts (hole_chunks pending.holes) pending.unsent in
@@ -160,9 +161,9 @@ between_is_cut site view pending chunk behind =
       whole = ap length (sym payload_is) ∙ sym chunk.held.body.payload.ok.0 ∙ behind.whole;
       dropped = λ marked. absurd (cc);
     } in
-    held_cut site view behind.completed behind.pages page chunk.held.chunk chunk.held.id behind.draft
-    (held_image site.place chunk.held.id chunk.count chunk.continues chunk.held.body.payload.items) behind.begun behind.shown behind.id
-    (held_image_is site chunk.held.id chunk.count chunk.held.body.payload.items chunk.continues fragments behind.filled.rest patches behind.filled.count_is payload_is)
+    held_cut site view behind.completed behind.pages page chunk.held.chunk chunk.held.position behind.draft
+    (held_image site.place chunk.held.position chunk.count chunk.continues chunk.held.body.payload.items) behind.begun behind.shown behind.position
+    (held_image_is site chunk.held.position chunk.count chunk.held.body.payload.items chunk.continues fragments behind.filled.rest patches behind.filled.count_is payload_is)
     (raw_cut_is_cut site.size packets (behind.pages ++ page ∷ [])
     (between_held_cut site.size packets behind.pages page pending.unsent (offset_behind 4 fragments)
     (subst (λ (chains : List Chain). IsBetween site.size packets behind.pages chains pending.unsent (offset_behind 4 fragments)) same_chains behind.between)
@@ -194,9 +195,9 @@ writing_pages site view pending fragment packet later older inside byte kept flu
 writing_is_cut : (site : Site) (view : WriterView) (pending : Pending) (fragment : OpenFragment) (packet : Packet) (older : List Packet)
     → (account_of view.calls).packets ≡ packet ∷ older → InFragment site packet older view pending fragment [] → HasByte fragment
     → HasCut site.size (site.place + 2) view.calls
-    (completed_images view.begun ++ held_image site.place fragment.held.id fragment.count fragment.continues (fragment_payload fragment) ∷ [])
+    (completed_images view.begun ++ held_image site.place fragment.held.position fragment.count fragment.continues (fragment_payload fragment) ∷ [])
     (completed_patches view.begun ++ with_lasts (hole_chunks pending.holes) pending.unsent ∷ [])
-    (held_image site.place fragment.held.id fragment.count fragment.continues (fragment_payload fragment) ∷ [])
+    (held_image site.place fragment.held.position fragment.count fragment.continues (fragment_payload fragment) ∷ [])
 writing_is_cut site view pending fragment packet older packets inside byte =
     let fragments : List (List ℕ) = inside.done ++ inside.now ∷ [] in
     let patches : List Patch = with_lasts (hole_chunks pending.holes) pending.unsent in
@@ -205,9 +206,9 @@ writing_is_cut site view pending fragment packet older packets inside byte =
     let payload_is : fragment_payload fragment ≡ laid false fragments inside.written.rest =
     written_ended payload fragment.start fragment.at fragment.count inside.done inside.now inside.written in
     let count_is : fragment.count ≡ length fragments = inside.written.count_is ∙ sym (length-append inside.done (inside.now ∷ [])) in
-    held_cut site view inside.completed inside.pages page fragment.held.chunk fragment.held.id inside.draft
-    (held_image site.place fragment.held.id fragment.count fragment.continues (fragment_payload fragment)) inside.begun inside.shown inside.id
-    (held_image_is site fragment.held.id fragment.count (fragment_payload fragment) fragment.continues fragments inside.written.rest patches count_is payload_is)
+    held_cut site view inside.completed inside.pages page fragment.held.chunk fragment.held.position inside.draft
+    (held_image site.place fragment.held.position fragment.count fragment.continues (fragment_payload fragment)) inside.begun inside.shown inside.position
+    (held_image_is site fragment.held.position fragment.count (fragment_payload fragment) fragment.continues fragments inside.written.rest patches count_is payload_is)
     (subst (λ (ps : List Packet). CutsInto site.size ps (inside.pages ++ page ∷ [])) (sym packets)
     (writing_pages site view pending fragment packet packet older inside byte refl refl refl inside.writing.given_up))
 
@@ -226,14 +227,14 @@ state_is_cut : (setup : Setup) (place : ℕ) (route : Route) (view : WriterView)
     → IsInPacketOf (account_of view.calls).packets packet → is_inside packet state ≡ is_begun packet
     → StateAgrees (site_of setup place route) (account_of view.calls) view pending state
     → HasCut route.payload_size (place + 2) view.calls (completed_images view.begun ++ held_images place state) (completed_patches view.begun ++ held_patches pending state) (held_images place state)
-state_is_cut setup place route view pending packet (Idle next_id) inside same w =
+state_is_cut setup place route view pending packet (Idle next_position) inside same w =
     idle_cut (site_of setup place route) view pending (none_goes_on (account_of view.calls).packets packet inside (sym same)) w.1
 state_is_cut setup place route view pending packet (Between chunk) inside same w = between_is_cut (site_of setup place route) view pending chunk w
 state_is_cut setup place route view pending packet (Writing fragment) inside same w =
     writing_is_cut (site_of setup place route) view pending fragment w.packet w.older w.packets w.inside w.byte
-state_is_cut setup place route view pending packet (Dropping next_id) inside same w =
+state_is_cut setup place route view pending packet (Dropping next_position) inside same w =
     idle_cut (site_of setup place route) view pending (lost_goes_on (account_of view.calls).packets w.1.packet w.1.older w.1.packets w.1.lost) w.1.idle
-state_is_cut setup place route view pending packet (Stalled next_id) inside same w = stuck_cut (site_of setup place route) view w.1
+state_is_cut setup place route view pending packet (Stalled next_position) inside same w = stuck_cut (site_of setup place route) view w.1
 
 pub agreeing_is_cut : AgreeingIsCut
 agreeing_is_cut setup place view writer agrees =
@@ -269,9 +270,9 @@ state_is_whole : (setup : Setup) (place : ℕ) (route : Route) (view : WriterVie
     (w : StateAgrees (site_of setup place route) (account_of view.calls) view pending state) → is_stalled state ≡ false
     → NewestIsWhole (account_of view.calls).packets (state_is_cut setup place route view pending packet state inside same w).cut.pages
 unfolding state_is_cut writing_is_cut held_cut
-state_is_whole setup place route view pending packet (Idle next_id) inside same w goes =
+state_is_whole setup place route view pending packet (Idle next_position) inside same w goes =
     let ended = none_goes_on (account_of view.calls).packets packet inside (sym same) in
-    cut_whole route.payload_size (account_of view.calls).packets _ (state_is_cut setup place route view pending packet (Idle next_id) inside same w).cut.cut ended
+    cut_whole route.payload_size (account_of view.calls).packets _ (state_is_cut setup place route view pending packet (Idle next_position) inside same w).cut.cut ended
 state_is_whole setup place route view pending packet (Between chunk) inside same w goes =
     let ended = none_goes_on (account_of view.calls).packets packet inside (sym same) in
     cut_whole route.payload_size (account_of view.calls).packets _ (state_is_cut setup place route view pending packet (Between chunk) inside same w).cut.cut ended
@@ -280,13 +281,18 @@ state_is_whole setup place route view pending packet (Writing fragment) inside s
     (cut_whole route.payload_size (finished_packet w.packet ∷ w.older) (state_is_cut setup place route view pending packet (Writing fragment) inside same w).cut.pages
     (writing_pages (site_of setup place route) view pending fragment w.packet (finished_packet w.packet) w.older w.inside w.byte refl refl refl w.inside.writing.given_up)
     (and_right (not (is_lost w.packet)) false refl))
-state_is_whole setup place route view pending packet (Dropping next_id) inside same w goes =
+state_is_whole setup place route view pending packet (Dropping next_position) inside same w goes =
     let ended = lost_goes_on (account_of view.calls).packets w.1.packet w.1.older w.1.packets w.1.lost in
-    cut_whole route.payload_size (account_of view.calls).packets _ (state_is_cut setup place route view pending packet (Dropping next_id) inside same w).cut.cut ended
-state_is_whole setup place route view pending packet (Stalled next_id) inside same w goes = absurd (cc)
+    cut_whole route.payload_size (account_of view.calls).packets _ (state_is_cut setup place route view pending packet (Dropping next_position) inside same w).cut.cut ended
+state_is_whole setup place route view pending packet (Stalled next_position) inside same w goes = absurd (cc)
 
 pub nothing_is_kept_back : NothingIsKeptBack
 nothing_is_kept_back setup place view writer agrees goes = (
   state_is_cut setup place writer.route view writer.pending writer.packet writer.state agrees.writes.packet agrees.writes.inside agrees.writes.state,
   state_is_whole setup place writer.route view writer.pending writer.packet writer.state agrees.writes.packet agrees.writes.inside agrees.writes.state goes,
 )
+
+pub agreeing_is_cut_from : AgreeingIsCutFrom
+agreeing_is_cut_from setup place view writer agrees =
+    cut_named writer.route.payload_size (place + 2) (from_of setup place) view.calls (images_so_far place view writer) (patches_so_far view writer)
+    (agreeing_is_cut setup place view writer agrees).cut

@@ -30,7 +30,7 @@ behind_seen site account view new pending chunk same b = record {
   sealed = b.sealed;
   drafted = b.drafted;
   shown = b.shown;
-  id = b.id;
+  position = b.position;
   sized = b.sized;
   whole = b.whole;
   filled = b.filled;
@@ -43,7 +43,7 @@ behind_seen site account view new pending chunk same b = record {
 
 state_seen : (site : Site) (account : Account) (view new : WriterView) (pending : Pending) (at : State) → new.begun ≡ view.begun
     → StateAgrees site account view pending at → StateAgrees site account new pending at
-state_seen site account view new pending (Idle next_id) same is = (is.0 ∙ ap (λ (l : List BegunChunk). length l) (sym same), idle_seen site account view new pending same is.1)
+state_seen site account view new pending (Idle next_position) same is = (is.0 ∙ ap (λ (l : List BegunChunk). length l) (sym same), idle_seen site account view new pending same is.1)
 state_seen site account view new pending (Between chunk) same is = behind_seen site account view new pending chunk same is
 state_seen site account view new pending (Writing fragment) same is = record {
   packet = is.packet;
@@ -54,7 +54,7 @@ state_seen site account view new pending (Writing fragment) same is = record {
   byte = is.byte;
   ids = is.ids;
 }
-state_seen site account view new pending (Dropping next_id) same is = (
+state_seen site account view new pending (Dropping next_position) same is = (
   is.0 ∙ ap (λ (l : List BegunChunk). length l) (sym same),
   record {
     packet = is.1.packet;
@@ -65,7 +65,7 @@ state_seen site account view new pending (Dropping next_id) same is = (
     idle = idle_seen site account view new pending same is.1.idle;
   },
 )
-state_seen site account view new pending (Stalled next_id) same is = (is.0 ∙ ap (λ (l : List BegunChunk). length l) (sym same), stuck_seen site account.packets view new same is.1)
+state_seen site account view new pending (Stalled next_position) same is = (is.0 ∙ ap (λ (l : List BegunChunk). length l) (sym same), stuck_seen site account.packets view new same is.1)
 
 pub letters_agree : (setup : Setup) (place : ℕ) (view : WriterView) (letters : Letters) (one : Writer) → WriterAgrees setup place view one
     → WriterAgrees setup place (record view { letters = letters }) one

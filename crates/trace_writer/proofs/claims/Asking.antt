@@ -74,16 +74,16 @@ lost_counts setup first count old new steps later vain is =
     omega (arith, is, asks, begun, vain.count_is, length-append old.asked lost, length-lost_asks (length old.calls) first vain.words)
 
 module _ {T W S : Type 0} (means : Meaning T W S) where
-  pub gets_chunk : (route : Route) (chunk id : ℕ) (old : T) (seat : W) (new : T) (after : W) → IsWriterStep means old seat new after
+  pub gets_chunk : (route : Route) (chunk position : ℕ) (old : T) (seat : W) (new : T) (after : W) → IsWriterStep means old seat new after
       → ClaimsInTurn (means.setup old) route.arbiter.first route.arbiter.chunks chunk (means.view old seat) (means.view new after)
       → ((world : World) → means.told old ≡ Some world → NoneFree world route.arbiter.first chunk × ∥ status world chunk ≡ Unclaimed ∥₁
-      × (means.told new ≡ Some (moved world (means.place seat) (means.view new after) chunk (Writing (means.place seat) id (draft_at (means.view new after) id)))))
+      × (means.told new ≡ Some (moved world (means.place seat) (means.view new after) chunk (Writing (means.place seat) position (draft_at (means.view new after) position)))))
       → GetsChunk means route old seat new after
-  gets_chunk route chunk id old seat new after step claims tells = record {
+  gets_chunk route chunk position old seat new after step claims tells = record {
     step = step;
     chunk = chunk;
     claims = claims;
-    frees_none = frees_moved means.told old new (means.place seat) chunk (means.view new after) (Writing (means.place seat) id (draft_at (means.view new after) id)) (writing_used (means.place seat) id (draft_at (means.view new after) id))
+    frees_none = frees_moved means.told old new (means.place seat) chunk (means.view new after) (Writing (means.place seat) position (draft_at (means.view new after) position)) (writing_used (means.place seat) position (draft_at (means.view new after) position))
         (λ world is. (tells world is).2);
   }
 

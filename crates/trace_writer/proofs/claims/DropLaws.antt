@@ -13,11 +13,11 @@ use Rattle.trace_writer.specs.Site.{Site, site_of}
 
 state_goes : (site : Site) (account : Account) (view : WriterView) (pending : Pending) (state : State)
     → StateAgrees site account view pending state → site.policy ≢ Stalls → is_stalled state ≡ false
-state_goes site account view pending (Idle next_id) agrees drops = refl
+state_goes site account view pending (Idle next_position) agrees drops = refl
 state_goes site account view pending (Between chunk) agrees drops = refl
 state_goes site account view pending (Writing fragment) agrees drops = refl
-state_goes site account view pending (Dropping next_id) agrees drops = refl
-state_goes site account view pending (Stalled next_id) agrees drops = absurd (drops agrees.1.stalls)
+state_goes site account view pending (Dropping next_position) agrees drops = refl
+state_goes site account view pending (Stalled next_position) agrees drops = absurd (drops agrees.1.stalls)
 
 pub drops_never_stall : DropsNeverStall
 drops_never_stall setup place view writer agrees drops =

@@ -23,24 +23,24 @@ module _ {T W S : Type 0} (means : Meaning T W S) where
   }
 
   -- another thing stands in a held chunk
-  pub quiet_redrafted : (old : T) (seat : W) (new : T) (after : W) (by chunk id : ℕ) (draft other : Draft) → IsWriterStep means old seat new after
-      → means.view new after ≡ redrafts (means.view old seat) chunk id draft → IsHolding (means.view old seat) chunk id
-      → ((world : World) → means.told old ≡ Some world → means.told new ≡ Some (moved world by (means.view new after) chunk (Writing by id other)))
+  pub quiet_redrafted : (old : T) (seat : W) (new : T) (after : W) (by chunk position : ℕ) (draft other : Draft) → IsWriterStep means old seat new after
+      → means.view new after ≡ redrafts (means.view old seat) chunk position draft → IsHolding (means.view old seat) chunk position
+      → ((world : World) → means.told old ≡ Some world → means.told new ≡ Some (moved world by (means.view new after) chunk (Writing by position other)))
       → IsQuiet means old seat new after
-  quiet_redrafted old seat new after by chunk id draft other step is held tells =
-      quiet_chunks old seat new after (set (means.view old seat).begun id (Held chunk draft)) step is
-      (keeps_redrafted (means.view old seat).begun chunk id (draft_at (means.view old seat) id) draft held)
-      (frees_moved means.told old new by chunk (means.view new after) (Writing by id other) (writing_used by id other) tells)
+  quiet_redrafted old seat new after by chunk position draft other step is held tells =
+      quiet_chunks old seat new after (set (means.view old seat).begun position (Held chunk draft)) step is
+      (keeps_redrafted (means.view old seat).begun chunk position (draft_at (means.view old seat) position) draft held)
+      (frees_moved means.told old new by chunk (means.view new after) (Writing by position other) (writing_used by position other) tells)
 
   -- a held chunk is completed
-  pub quiet_completed : (old : T) (seat : W) (new : T) (after : W) (by chunk id : ℕ) (content : Content) → IsWriterStep means old seat new after
-      → means.view new after ≡ completes (means.view old seat) chunk id content → IsHolding (means.view old seat) chunk id
-      → ((world : World) → means.told old ≡ Some world → means.told new ≡ Some (moved world by (means.view new after) chunk (Ready by id content)))
+  pub quiet_completed : (old : T) (seat : W) (new : T) (after : W) (by chunk position : ℕ) (content : Content) → IsWriterStep means old seat new after
+      → means.view new after ≡ completes (means.view old seat) chunk position content → IsHolding (means.view old seat) chunk position
+      → ((world : World) → means.told old ≡ Some world → means.told new ≡ Some (moved world by (means.view new after) chunk (Ready by position content)))
       → IsQuiet means old seat new after
-  quiet_completed old seat new after by chunk id content step is held tells =
+  quiet_completed old seat new after by chunk position content step is held tells =
       quiet_chunks old seat new after _ step is
-      (keeps_set (means.view old seat).begun chunk id (draft_at (means.view old seat) id) content held)
-      (frees_moved means.told old new by chunk (means.view new after) (Ready by id content) (ready_used by id content) tells)
+      (keeps_set (means.view old seat).begun chunk position (draft_at (means.view old seat) position) content held)
+      (frees_moved means.told old new by chunk (means.view new after) (Ready by position content) (ready_used by position content) tells)
 
   -- a call is noted
   pub quiet_noted : (old : T) (seat : W) (new : T) (after : W) (by : ℕ) (call : Call) → IsWriterStep means old seat new after

@@ -16,23 +16,23 @@ use Rattle.trace_writer.proofs.claims.Working.{work_gets, work_lost, work_then}
 
 module _ {H T W S : Type 0} (means : Meaning T W S) (needs : H → T → Type 0) (helps : H → T → ℕ → Bool → H → T → Type 0) where
   -- a writer that drops, and holds no chunk
-  pub round_work : {begins : Bool} (route : Route) (helper : H) (old : T) (seat : W) (steps id : ℕ) (new : T) (after : W) (later : ℕ) (answer : Option HeldToken)
+  pub round_work : {begins : Bool} (route : Route) (helper : H) (old : T) (seat : W) (steps position : ℕ) (new : T) (after : W) (later : ℕ) (answer : Option HeldToken)
       → ((helper : H) (old new : T) (seat after : W) → IsWriterStep means old seat new after → needs helper old → needs helper new)
       → needs helper old → route.spec.policy ≡ Drops → NoneHeld (means.view old seat).begun → IsWriterStep means old seat new after
       → IfSome answer (λ held. ClaimsInTurn (means.setup old) route.arbiter.first route.arbiter.chunks held.chunk (means.view old seat) (means.view new after))
       → IfSome answer (λ held. later ≡ steps + (held.chunk - route.arbiter.first) + 2)
       → IfSome answer (λ held. (world : World) → means.told old ≡ Some world → NoneFree world route.arbiter.first held.chunk × ∥ status world held.chunk ≡ Unclaimed ∥₁
-      × (means.told new ≡ Some (moved world (means.place seat) (means.view new after) held.chunk (Writing (means.place seat) id (draft_at (means.view new after) id)))))
+      × (means.told new ≡ Some (moved world (means.place seat) (means.view new after) held.chunk (Writing (means.place seat) position (draft_at (means.view new after) position)))))
       → IfNone answer (AsksInVain (means.setup old) route.arbiter.first route.arbiter.chunks (means.view old seat) (means.view new after))
       → IfNone answer (later ≡ steps + route.arbiter.chunks)
       → IfNone answer ((world : World) → means.told old ≡ Some world → NoneFree world route.arbiter.first (route.arbiter.first + route.arbiter.chunks)
       × (means.told new ≡ Some (with_writer_view world (means.place seat) (means.view new after))))
       → IsWork means needs helps begins route helper old seat steps (not (is_some answer)) helper new after later
-  round_work route helper old seat steps id new after later (Some held) keeps needed drops none step won steps_won told_won lost steps_lost told_lost =
+  round_work route helper old seat steps position new after later (Some held) keeps needed drops none step won steps_won told_won lost steps_lost told_lost =
       work_gets means needs helps route helper old seat steps new after later keeps needed
-      (gets_chunk means route held.chunk id old seat new after step won told_won)
+      (gets_chunk means route held.chunk position old seat new after step won told_won)
       (won_counts (means.setup old) route.arbiter.first route.arbiter.chunks held.chunk (means.view old seat) (means.view new after) steps later won steps_won)
-  round_work route helper old seat steps id new after later None keeps needed drops none step won steps_won told_won lost steps_lost told_lost =
+  round_work route helper old seat steps position new after later None keeps needed drops none step won steps_won told_won lost steps_lost told_lost =
       work_lost means needs helps route helper old seat steps new after later keeps needed drops
       (out_now means route old seat new after step lost none told_lost)
       (lost_counts (means.setup old) route.arbiter.first route.arbiter.chunks (means.view old seat) (means.view new after) steps later lost steps_lost)

@@ -100,7 +100,7 @@ module _ {H T W S : Type 0} (means : Meaning T W S) (needs : H → T → Type 0)
   }
 
   -- the last round, whether it got a chunk or not
-  pub tried_last : {begins : Bool} (route : Route) (tries : ℕ) (helper : H) (old : T) (seat : W) (steps left : ℕ) (middle : H) (mid : T) (between : W) (half id : ℕ) (new : T) (after : W) (later : ℕ)
+  pub tried_last : {begins : Bool} (route : Route) (tries : ℕ) (helper : H) (old : T) (seat : W) (steps left : ℕ) (middle : H) (mid : T) (between : W) (half position : ℕ) (new : T) (after : W) (later : ℕ)
       (answer : Option HeldToken)
       → ((helper : H) (old new : T) (seat after : W) → IsWriterStep means old seat new after → needs helper old → needs helper new)
       → route.spec.policy ≡ StallsThenDrops tries
@@ -109,17 +109,17 @@ module _ {H T W S : Type 0} (means : Meaning T W S) (needs : H → T → Type 0)
       → IfSome answer (λ held. ClaimsInTurn (means.setup mid) route.arbiter.first route.arbiter.chunks held.chunk (means.view mid between) (means.view new after))
       → IfSome answer (λ held. later ≡ half + (held.chunk - route.arbiter.first) + 2)
       → IfSome answer (λ held. (world : World) → means.told mid ≡ Some world → NoneFree world route.arbiter.first held.chunk × ∥ status world held.chunk ≡ Unclaimed ∥₁
-      × (means.told new ≡ Some (moved world (means.place between) (means.view new after) held.chunk (Writing (means.place between) id (draft_at (means.view new after) id)))))
+      × (means.told new ≡ Some (moved world (means.place between) (means.view new after) held.chunk (Writing (means.place between) position (draft_at (means.view new after) position)))))
       → IfNone answer (AsksInVain (means.setup mid) route.arbiter.first route.arbiter.chunks (means.view mid between) (means.view new after))
       → IfNone answer (later ≡ half + route.arbiter.chunks)
       → IfNone answer ((world : World) → means.told mid ≡ Some world → NoneFree world route.arbiter.first (route.arbiter.first + route.arbiter.chunks)
       × (means.told new ≡ Some (with_writer_view world (means.place between) (means.view new after))))
       → IsWork means needs helps begins route helper old seat steps (not (is_some answer)) middle new after later
-  tried_last route tries helper old seat steps left middle mid between half id new after later (Some held) keeps trying on none holds step won steps_won told_won lost steps_lost told_lost =
+  tried_last route tries helper old seat steps left middle mid between half position new after later (Some held) keeps trying on none holds step won steps_won told_won lost steps_lost told_lost =
       trying_gets route tries helper old seat steps left middle mid between half new after later keeps trying on
-      (gets_chunk means route held.chunk id mid between new after step won told_won)
+      (gets_chunk means route held.chunk position mid between new after step won told_won)
       (won_counts (means.setup mid) route.arbiter.first route.arbiter.chunks held.chunk (means.view mid between) (means.view new after) half later won steps_won)
-  tried_last route tries helper old seat steps left middle mid between half id new after later None keeps trying on none holds step won steps_won told_won lost steps_lost told_lost =
+  tried_last route tries helper old seat steps left middle mid between half position new after later None keeps trying on none holds step won steps_won told_won lost steps_lost told_lost =
       trying_ends route tries helper old seat steps left middle mid between half new after later keeps trying on none
       (record { vain = in_vain means route mid between new after step lost told_lost; none_held = holds })
       (lost_counts (means.setup mid) route.arbiter.first route.arbiter.chunks (means.view mid between) (means.view new after) half later lost steps_lost)

@@ -37,26 +37,26 @@ not_held begun about chunk draft content at =
     (Completed chunk content) zero refl at in cc
 
 pub keeps_on : (old mid new : List BegunChunk) → KeepsCompleted old mid → KeepsCompleted mid new → KeepsCompleted old new
-keeps_on old mid new one two = λ id chunk content at. two id chunk content (one id chunk content at)
+keeps_on old mid new one two = λ position chunk content at. two position chunk content (one position chunk content at)
 
 pub quiet_keeps : (old new : List BegunChunk) → KeepsChunks old new → KeepsCompleted old new
-quiet_keeps [] new keeps id chunk content at = absurd (let inside = at_inside [] (Completed chunk content) id at in omega (arith, inside))
-quiet_keeps (Held about draft ∷ old) [] keeps id chunk content at = absurd keeps
-quiet_keeps (Completed about was ∷ old) [] keeps id chunk content at = absurd keeps
+quiet_keeps [] new keeps position chunk content at = absurd (let inside = at_inside [] (Completed chunk content) position at in omega (arith, inside))
+quiet_keeps (Held about draft ∷ old) [] keeps position chunk content at = absurd keeps
+quiet_keeps (Completed about was ∷ old) [] keeps position chunk content at = absurd keeps
 quiet_keeps (Held about draft ∷ old) (Held other next ∷ new) keeps zero chunk content at = absurd (not_held old about chunk draft content at)
-quiet_keeps (Held about draft ∷ old) (Held other next ∷ new) keeps (suc id) chunk content at = quiet_keeps old new keeps.1 id chunk content at
+quiet_keeps (Held about draft ∷ old) (Held other next ∷ new) keeps (suc position) chunk content at = quiet_keeps old new keeps.1 position chunk content at
 quiet_keeps (Held about draft ∷ old) (Completed other later ∷ new) keeps zero chunk content at = absurd (not_held old about chunk draft content at)
-quiet_keeps (Held about draft ∷ old) (Completed other later ∷ new) keeps (suc id) chunk content at = quiet_keeps old new keeps.1 id chunk content at
-quiet_keeps (Completed about was ∷ old) (Held other next ∷ new) keeps id chunk content at = absurd keeps
+quiet_keeps (Held about draft ∷ old) (Completed other later ∷ new) keeps (suc position) chunk content at = quiet_keeps old new keeps.1 position chunk content at
+quiet_keeps (Completed about was ∷ old) (Held other next ∷ new) keeps position chunk content at = absurd keeps
 quiet_keeps (Completed about was ∷ old) (Completed other later ∷ new) keeps zero chunk content at =
     let number = keeps.0 in let text = keeps.1 in let same : Completed about was ≡ Completed other later = cc in
     subst (λ (one : BegunChunk). At (one ∷ new) zero (Completed chunk content)) same at
-quiet_keeps (Completed about was ∷ old) (Completed other later ∷ new) keeps (suc id) chunk content at = quiet_keeps old new keeps.2 id chunk content at
+quiet_keeps (Completed about was ∷ old) (Completed other later ∷ new) keeps (suc position) chunk content at = quiet_keeps old new keeps.2 position chunk content at
 
 longer_keeps : (old more : List BegunChunk) → KeepsCompleted old (old ++ more)
-longer_keeps [] more id chunk content at = absurd (let inside = at_inside [] (Completed chunk content) id at in omega (arith, inside))
+longer_keeps [] more position chunk content at = absurd (let inside = at_inside [] (Completed chunk content) position at in omega (arith, inside))
 longer_keeps (one ∷ old) more zero chunk content at = at
-longer_keeps (one ∷ old) more (suc id) chunk content at = longer_keeps old more id chunk content at
+longer_keeps (one ∷ old) more (suc position) chunk content at = longer_keeps old more position chunk content at
 
 module _ {H T W S : Type 0} (means : Meaning T W S) (route : Route) (helps : H → T → ℕ → Bool → H → T → Type 0) where
   abbrev begun : T → W → List BegunChunk
@@ -115,7 +115,7 @@ front_stays (suc n) (Completed chunk content ∷ old) [] keeps inside none =
     absurd (let there = at_inside [] (Completed chunk content) zero (keeps zero chunk content refl) in omega (arith, there))
 front_stays (suc n) (Completed chunk content ∷ old) (one ∷ new) keeps inside none =
     let first : one ≡ Completed chunk content = at_one (one ∷ new) one (Completed chunk content) zero refl (keeps zero chunk content refl) in
-    let rest = front_stays n old new (λ id other later at. keeps (suc id) other later at) (omega (arith, inside)) none in
+    let rest = front_stays n old new (λ position other later at. keeps (suc position) other later at) (omega (arith, inside)) none in
     (let low = rest.0 in omega (arith, low), (let same = rest.1 in cc))
 
 pub cut_stays : (size sequence : ℕ) (old new : WriterView) (noted : List Call) (answer : Reply) → new.calls ≡ old.calls ++ noted
@@ -139,25 +139,25 @@ pub empty_holds_none : (setup : Setup) (place : ℕ) (view : WriterView) (one : 
 empty_holds_none setup place view one agrees = by_state one.state agrees.writes.state
   where
     by_state : (at : State) → StateAgrees (site_of setup place one.route) (account_of view.calls) view one.pending at → is_empty at ≡ true → NoneHeld view.begun
-    by_state (Idle next_id) is none = shown_none_held (site_of setup place one.route) 0 view.begun is.1.pages is.1.shown
+    by_state (Idle next_position) is none = shown_none_held (site_of setup place one.route) 0 view.begun is.1.pages is.1.shown
     by_state (Between chunk) is none = absurd (let never : false ≡ true = none in cc)
     by_state (Writing fragment) is none = absurd (let never : false ≡ true = none in cc)
-    by_state (Dropping next_id) is none = shown_none_held (site_of setup place one.route) 0 view.begun is.1.idle.pages is.1.idle.shown
-    by_state (Stalled next_id) is none = shown_none_held (site_of setup place one.route) 0 view.begun is.1.pages is.1.shown
+    by_state (Dropping next_position) is none = shown_none_held (site_of setup place one.route) 0 view.begun is.1.idle.pages is.1.idle.shown
+    by_state (Stalled next_position) is none = shown_none_held (site_of setup place one.route) 0 view.begun is.1.pages is.1.shown
 
 no_images : (place : ℕ) (at : State) → is_empty at ≡ true → held_images place at ≡ []
-no_images place (Idle next_id) none = refl
+no_images place (Idle next_position) none = refl
 no_images place (Between chunk) none = absurd (let never : false ≡ true = none in cc)
 no_images place (Writing fragment) none = absurd (let never : false ≡ true = none in cc)
-no_images place (Dropping next_id) none = refl
-no_images place (Stalled next_id) none = refl
+no_images place (Dropping next_position) none = refl
+no_images place (Stalled next_position) none = refl
 
 no_patches : (pending : Pending) (at : State) → is_empty at ≡ true → held_patches pending at ≡ []
-no_patches pending (Idle next_id) none = refl
+no_patches pending (Idle next_position) none = refl
 no_patches pending (Between chunk) none = absurd (let never : false ≡ true = none in cc)
 no_patches pending (Writing fragment) none = absurd (let never : false ≡ true = none in cc)
-no_patches pending (Dropping next_id) none = refl
-no_patches pending (Stalled next_id) none = refl
+no_patches pending (Dropping next_position) none = refl
+no_patches pending (Stalled next_position) none = refl
 
 -- what was completed is all that was begun
 pub all_completed : (begun : List BegunChunk) → NoneHeld begun → length (completed_images begun) ≡ length begun

@@ -36,12 +36,12 @@ held_last (one ∷ next ∷ begun) chunk head = held_last (next ∷ begun) chunk
 
 state_holds : (site : Site) (account : Account) (view : WriterView) (pending : Pending) (state : State) → StateAgrees site account view pending state
     → last_is_held view.begun ≡ not (is_empty state)
-state_holds site account view pending (Idle next_id) agrees = none_last view.begun (shown_none_held site 0 view.begun agrees.1.pages agrees.1.shown)
+state_holds site account view pending (Idle next_position) agrees = none_last view.begun (shown_none_held site 0 view.begun agrees.1.pages agrees.1.shown)
 state_holds site account view pending (Between chunk) agrees = ap last_is_held agrees.begun ∙ held_last agrees.completed chunk.held.chunk agrees.draft
 state_holds site account view pending (Writing fragment) agrees =
     ap last_is_held agrees.inside.begun ∙ held_last agrees.inside.completed fragment.held.chunk agrees.inside.draft
-state_holds site account view pending (Dropping next_id) agrees = none_last view.begun (shown_none_held site 0 view.begun agrees.1.idle.pages agrees.1.idle.shown)
-state_holds site account view pending (Stalled next_id) agrees = none_last view.begun (shown_none_held site 0 view.begun agrees.1.pages agrees.1.shown)
+state_holds site account view pending (Dropping next_position) agrees = none_last view.begun (shown_none_held site 0 view.begun agrees.1.idle.pages agrees.1.idle.shown)
+state_holds site account view pending (Stalled next_position) agrees = none_last view.begun (shown_none_held site 0 view.begun agrees.1.pages agrees.1.shown)
 
 pub newest_is_held : NewestIsHeld
 newest_is_held setup place view writer agrees goes =
@@ -50,7 +50,7 @@ newest_is_held setup place view writer agrees goes =
 -- What of it was published
 
 between_published : (site : Site) (account : Account) (view : WriterView) (pending : Pending) (place : ℕ) (chunk : HeldChunk) → IsBehind site account view pending chunk
-    → IsHeldImage view (held_image place chunk.held.id chunk.count chunk.continues chunk.held.body.payload.items)
+    → IsHeldImage view (held_image place chunk.held.position chunk.count chunk.continues chunk.held.body.payload.items)
 between_published site account view pending place chunk behind =
     let many = ap (λ (xs : List (List ℕ)). length xs) behind.parts in
     record {
@@ -58,7 +58,7 @@ between_published site account view pending place chunk behind =
       chunk = chunk.held.chunk;
       draft = behind.draft;
       begun = behind.begun;
-      id = behind.id ∙ sym (shows_long site 0 behind.completed behind.pages behind.shown);
+      position = behind.position ∙ sym (shows_long site 0 behind.completed behind.pages behind.shown);
       head = behind.drafted.head;
       before = behind.before;
       count = omega (arith, behind.filled.count_is, many, length-append behind.before (behind.last ∷ []));
@@ -69,14 +69,14 @@ between_published site account view pending place chunk behind =
 
 writing_published : (site : Site) (packet : Packet) (older : List Packet) (view : WriterView) (pending : Pending) (place : ℕ) (fragment : OpenFragment)
     → InFragment site packet older view pending fragment []
-    → IsHeldImage view (held_image place fragment.held.id fragment.count fragment.continues (fragment_payload fragment))
+    → IsHeldImage view (held_image place fragment.held.position fragment.count fragment.continues (fragment_payload fragment))
 writing_published site packet older view pending place fragment w =
     record {
       completed = w.completed;
       chunk = fragment.held.chunk;
       draft = w.draft;
       begun = w.begun;
-      id = w.id ∙ sym (shows_long site 0 w.completed w.pages w.shown);
+      position = w.position ∙ sym (shows_long site 0 w.completed w.pages w.shown);
       head = w.drafted.head;
       before = w.done;
       count = w.written.count_is;
@@ -93,15 +93,15 @@ none_images image e = let same : [] ≡ image ∷ [] = e in cc
 
 state_published : (site : Site) (account : Account) (view : WriterView) (pending : Pending) (place : ℕ) (state : State) (image : Image) → StateAgrees site account view pending state
     → held_images place state ≡ image ∷ [] → IsHeldImage view image
-state_published site account view pending place (Idle next_id) image agrees is = absurd (none_images image is)
+state_published site account view pending place (Idle next_position) image agrees is = absurd (none_images image is)
 state_published site account view pending place (Between chunk) image agrees is =
-    subst (IsHeldImage view) (only_image (held_image place chunk.held.id chunk.count chunk.continues chunk.held.body.payload.items) image is)
+    subst (IsHeldImage view) (only_image (held_image place chunk.held.position chunk.count chunk.continues chunk.held.body.payload.items) image is)
     (between_published site account view pending place chunk agrees)
 state_published site account view pending place (Writing fragment) image agrees is =
-    subst (IsHeldImage view) (only_image (held_image place fragment.held.id fragment.count fragment.continues (fragment_payload fragment)) image is)
+    subst (IsHeldImage view) (only_image (held_image place fragment.held.position fragment.count fragment.continues (fragment_payload fragment)) image is)
     (writing_published site agrees.packet agrees.older view pending place fragment agrees.inside)
-state_published site account view pending place (Dropping next_id) image agrees is = absurd (none_images image is)
-state_published site account view pending place (Stalled next_id) image agrees is = absurd (none_images image is)
+state_published site account view pending place (Dropping next_position) image agrees is = absurd (none_images image is)
+state_published site account view pending place (Stalled next_position) image agrees is = absurd (none_images image is)
 
 pub held_is_published : HeldIsPublished
 held_is_published setup place view writer agrees image is =

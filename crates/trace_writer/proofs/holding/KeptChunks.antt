@@ -54,29 +54,29 @@ first_is : (x y : BegunChunk) (begun : List BegunChunk) → At (x ∷ begun) 0 y
 first_is x y begun at = let same : some x ≡ some y = at in cc
 
 -- another thing stands in a held chunk
-pub keeps_redrafted : (begun : List BegunChunk) (chunk id : ℕ) (head next : Draft) → At begun id (Held chunk head) → KeepsChunks begun (set begun id (Held chunk next))
+pub keeps_redrafted : (begun : List BegunChunk) (chunk position : ℕ) (head next : Draft) → At begun position (Held chunk head) → KeepsChunks begun (set begun position (Held chunk next))
 unfolding is_held
-keeps_redrafted [] chunk id head next held = tt
+keeps_redrafted [] chunk position head next held = tt
 keeps_redrafted (Held other h ∷ begun) chunk zero head next held = (sym (ap chunk_of (first_is (Held other h) (Held chunk head) begun held)), keeps_same begun)
-keeps_redrafted (Held other h ∷ begun) chunk (suc id) head next held = (refl, keeps_redrafted begun chunk id head next held)
+keeps_redrafted (Held other h ∷ begun) chunk (suc position) head next held = (refl, keeps_redrafted begun chunk position head next held)
 keeps_redrafted (Completed other c ∷ begun) chunk zero head next held = absurd (true≢false (sym (ap is_held (first_is (Completed other c) (Held chunk head) begun held))))
-keeps_redrafted (Completed other c ∷ begun) chunk (suc id) head next held = (refl, refl, keeps_redrafted begun chunk id head next held)
+keeps_redrafted (Completed other c ∷ begun) chunk (suc position) head next held = (refl, refl, keeps_redrafted begun chunk position head next held)
 
 -- or the chunk is completed
-pub keeps_set : (begun : List BegunChunk) (chunk id : ℕ) (head : Draft) (content : Content) → At begun id (Held chunk head) → KeepsChunks begun (set begun id (Completed chunk content))
+pub keeps_set : (begun : List BegunChunk) (chunk position : ℕ) (head : Draft) (content : Content) → At begun position (Held chunk head) → KeepsChunks begun (set begun position (Completed chunk content))
 unfolding is_held
-keeps_set [] chunk id head content held = tt
+keeps_set [] chunk position head content held = tt
 keeps_set (Held other h ∷ begun) chunk zero head content held = (sym (ap chunk_of (first_is (Held other h) (Held chunk head) begun held)), keeps_same begun)
-keeps_set (Held other h ∷ begun) chunk (suc id) head content held = (refl, keeps_set begun chunk id head content held)
+keeps_set (Held other h ∷ begun) chunk (suc position) head content held = (refl, keeps_set begun chunk position head content held)
 keeps_set (Completed other c ∷ begun) chunk zero head content held = absurd (true≢false (sym (ap is_held (first_is (Completed other c) (Held chunk head) begun held))))
-keeps_set (Completed other c ∷ begun) chunk (suc id) head content held = (refl, refl, keeps_set begun chunk id head content held)
+keeps_set (Completed other c ∷ begun) chunk (suc position) head content held = (refl, refl, keeps_set begun chunk position head content held)
 
 -- completed chunks are none that is held
-pub shown_none_held : (site : Site) (id : ℕ) (begun : List BegunChunk) (pages : List Page) → ShowsPages site id begun pages → NoneHeld begun
-shown_none_held site id [] pages shown = tt
-shown_none_held site id (Held chunk head ∷ begun) pages shown = absurd shown
-shown_none_held site id (Completed chunk content ∷ begun) [] shown = absurd shown
-shown_none_held site id (Completed chunk content ∷ begun) (page ∷ pages) shown = shown_none_held site (suc id) begun pages shown.1
+pub shown_none_held : (site : Site) (position : ℕ) (begun : List BegunChunk) (pages : List Page) → ShowsPages site position begun pages → NoneHeld begun
+shown_none_held site position [] pages shown = tt
+shown_none_held site position (Held chunk head ∷ begun) pages shown = absurd shown
+shown_none_held site position (Completed chunk content ∷ begun) [] shown = absurd shown
+shown_none_held site position (Completed chunk content ∷ begun) (page ∷ pages) shown = shown_none_held site (suc position) begun pages shown.1
 
 -- how many are held
 pub none_counted : (begun : List BegunChunk) → NoneHeld begun → held_count begun ≡ 0
@@ -113,13 +113,13 @@ is_unclaimed : Status → Bool
 is_unclaimed Unclaimed = true
 is_unclaimed other = false
 
-pub writing_used : (place id : ℕ) (head : Draft) → Writing place id head ≡ Unclaimed → ⊥
+pub writing_used : (place position : ℕ) (head : Draft) → Writing place position head ≡ Unclaimed → ⊥
 unfolding is_unclaimed
-writing_used place id head e = true≢false (sym (ap is_unclaimed e))
+writing_used place position head e = true≢false (sym (ap is_unclaimed e))
 
-pub ready_used : (place id : ℕ) (content : Content) → Ready place id content ≡ Unclaimed → ⊥
+pub ready_used : (place position : ℕ) (content : Content) → Ready place position content ≡ Unclaimed → ⊥
 unfolding is_unclaimed
-ready_used place id content e = true≢false (sym (ap is_unclaimed e))
+ready_used place position content e = true≢false (sym (ap is_unclaimed e))
 
 -- a writer's step uses a chunk
 pub frees_moved : {T : Type 0} (told : T → Option World) (old new : T) (place chunk : ℕ) (view : WriterView) (to : Status) → (to ≡ Unclaimed → ⊥)

@@ -21,7 +21,7 @@ use Rattle.trace_writer.specs.declared.state.Writer.{Writer}
 use Rattle.trace_writer.specs.Drafted.{CountsNext}
 use Rattle.trace_writer.specs.Site.{Site, site_of}
 use Rattle.trace_writer.specs.Filled.{ShowsPages}
-use Rattle.trace_writer.specs.Ids.{HasIds, last_id, least_filled}
+use Rattle.trace_writer.specs.Ids.{HasIds, last_position, least_filled}
 use Rattle.trace_writer.specs.Fragment.{IsPutInto}
 use Rattle.trace_writer.specs.States.{InFragment, IsIdle}
 use Rattle.trace_writer.specs.Placing.{IsStarted, IsRoomy}
@@ -40,12 +40,12 @@ fresh_measured kept account open_one len starts = record {
 }
 
 -- It is dropped as a whole.
-pub begin_nowhere : (setup : Setup) (place : ℕ) (view new : WriterView) (writer after : Writer) (next_id : ℕ) (open_one : OpenPacket)
+pub begin_nowhere : (setup : Setup) (place : ℕ) (view new : WriterView) (writer after : Writer) (next_position : ℕ) (open_one : OpenPacket)
     → open_one.len ≡ 0 → open_one.starts.items ≡ [] → new ≡ notes_call view (call.Begun false)
-    → after ≡ record writer { state = Dropping next_id; packet = Some open_one; begun = min (writer.begun + 1) 18446744073709551615; dropped = min (writer.dropped + 1) 18446744073709551615 }
-    → next_id ≡ length view.begun → IsIdle (site_of setup place writer.route) (account_of view.calls) view writer.pending
+    → after ≡ record writer { state = Dropping next_position; packet = Some open_one; begun = min (writer.begun + 1) 18446744073709551615; dropped = min (writer.dropped + 1) 18446744073709551615 }
+    → next_position ≡ length view.begun → IsIdle (site_of setup place writer.route) (account_of view.calls) view writer.pending
     → AgreesBetween setup place view writer → Agrees setup place new after
-begin_nowhere setup place view new writer after next_id open_one len starts notes is next idle agrees =
+begin_nowhere setup place view new writer after next_position open_one len starts notes is next idle agrees =
     let site : Site = site_of setup place writer.route in
     let account : Account = account_of view.calls in
     let packet : Packet = begun_packet false account in
@@ -82,11 +82,11 @@ begin_nowhere setup place view new writer after next_id open_one len starts note
     })
 
 -- It is not begun: the writer stalls.
-pub stall_nowhere : (setup : Setup) (place : ℕ) (view : WriterView) (writer after : Writer) (next_id : ℕ)
-    → after ≡ record writer { state = Stalled next_id } → writer.route.spec.policy ≡ Stalls
-    → next_id ≡ length view.begun → IsIdle (site_of setup place writer.route) (account_of view.calls) view writer.pending
+pub stall_nowhere : (setup : Setup) (place : ℕ) (view : WriterView) (writer after : Writer) (next_position : ℕ)
+    → after ≡ record writer { state = Stalled next_position } → writer.route.spec.policy ≡ Stalls
+    → next_position ≡ length view.begun → IsIdle (site_of setup place writer.route) (account_of view.calls) view writer.pending
     → AgreesBetween setup place view writer → Agrees setup place view after
-stall_nowhere setup place view writer after next_id is stalls next idle agrees =
+stall_nowhere setup place view writer after next_position is stalls next idle agrees =
     let site : Site = site_of setup place writer.route in
     let packets : List Packet = (account_of view.calls).packets in
     subst (Agrees setup place view) (sym is) (record {
@@ -141,7 +141,7 @@ fronted_inside site account view new pending chunk first fragment false counted 
 
 -- where the fragment is then
 record IsPlaced (chunk : HeldChunk) (fragment : OpenFragment) : Type 0 where
-  id : fragment.held.id ≡ chunk.held.id
+  position : fragment.held.position ≡ chunk.held.position
   start : fragment.start ≡ chunk.at
   high : fragment.at ≤ chunk.at + 7
   continues : fragment.continues ≡ chunk.continues
@@ -150,7 +150,7 @@ placed : (chunk : HeldChunk) (first fragment : OpenFragment) (follows : Bool) �
 placed chunk first fragment true fronted started =
     let put = fronted.put refl in
     record {
-      id = put.same.id ∙ ap (λ (held : HeldToken). held.id) started.held;
+      position = put.same.position ∙ ap (λ (held : HeldToken). held.position) started.held;
       start = put.same.start ∙ started.start;
       high = omega (arith, fronted.at refl, started.at);
       continues = put.same.continues ∙ started.continues;
@@ -158,20 +158,20 @@ placed chunk first fragment true fronted started =
 placed chunk first fragment false fronted started =
     let same : fragment ≡ first = fronted.none refl in
     record {
-      id = ap (λ (f : OpenFragment). f.held.id) same ∙ ap (λ (held : HeldToken). held.id) started.held;
+      position = ap (λ (f : OpenFragment). f.held.position) same ∙ ap (λ (held : HeldToken). held.position) started.held;
       start = ap (λ (f : OpenFragment). f.start) same ∙ started.start;
       high = omega (arith, ap (λ (f : OpenFragment). f.at) same, started.at);
       continues = ap (λ (f : OpenFragment). f.continues) same ∙ started.continues;
     }
 
 -- there are ids for all that the packet may have
-placed_ids : (chunk : HeldChunk) (fragment : OpenFragment) → IsPlaced chunk fragment → MAX_PACKET_LEN + least_filled ≤ (last_id - chunk.held.id) * least_filled
+placed_ids : (chunk : HeldChunk) (fragment : OpenFragment) → IsPlaced chunk fragment → MAX_PACKET_LEN + least_filled ≤ (last_position - chunk.held.position) * least_filled
     → HasIds fragment MAX_PACKET_LEN
 placed_ids chunk fragment at ids =
-    subst (λ (n : ℕ). MAX_PACKET_LEN + cond (fragment.start == 0) (fragment.at - 4) 277 ≤ (4294967294 - n) * 277) (sym at.id)
+    subst (λ (n : ℕ). MAX_PACKET_LEN + cond (fragment.start == 0) (fragment.at - 4) 277 ≤ (4294967294 - n) * 277) (sym at.position)
     (either (fragment.start == 0) refl)
   where
-    either : (b : Bool) → (fragment.start == 0) ≡ b → MAX_PACKET_LEN + cond b (fragment.at - 4) 277 ≤ (4294967294 - chunk.held.id) * 277
+    either : (b : Bool) → (fragment.start == 0) ≡ b → MAX_PACKET_LEN + cond b (fragment.at - 4) 277 ≤ (4294967294 - chunk.held.position) * 277
     either true e = let zero_start : fragment.start ≡ 0 = eqb-true fragment.start 0 e in omega (arith, zero_start, at.start, at.high, ids)
     either false e = ids
 

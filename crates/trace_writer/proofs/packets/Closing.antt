@@ -80,14 +80,14 @@ pub inside_ended : (site : Site) (packet : Packet) (older : List Packet) (view :
 inside_ended site packet older view before after fragment next level outer others levels byte closed i =
     by_answer closed.answer closed.closes closed.put
   where
-    by_answer : (answer : Closed) → ClosesHole before after fragment.held.id (length level) answer → Closes fragment next answer
+    by_answer : (answer : Closed) → ClosesHole before after fragment.held.position (length level) answer → Closes fragment next answer
         → InFragment site (with_nested_ended packet) older view after next []
     by_answer (Here offset bytes) closes put =
         let hole : Hole = closes.hole in
-        let holes : reverse before.holes ≡ hole ∷ reverse after.holes = inner_first_closed before after fragment.held.id (length level) (Here offset bytes) closes in
+        let holes : reverse before.holes ≡ hole ∷ reverse after.holes = inner_first_closed before after fragment.held.position (length level) (Here offset bytes) closes in
         let writing : IsWriting site.size packet older i.pages fragment.continues i.done i.now before.unsent (hole ∷ reverse after.holes) [] =
         subst (λ (hs : List Hole). IsWriting site.size packet older i.pages fragment.continues i.done i.now before.unsent hs []) holes i.writing in
-        let held : hole.chunk_id ≡ length i.pages = closes.outcome.0 ∙ i.id in
+        let held : hole.chunk_id ≡ length i.pages = closes.outcome.0 ∙ i.position in
         let place : offset ≡ hole.offset = closes.outcome.1 in
         let unsent : after.unsent ≡ before.unsent = closes.outcome.3 in
         let four : length bytes ≡ 4 = ap length closes.outcome.2 ∙ length-redundant (length level) in
@@ -99,9 +99,9 @@ inside_ended site packet older view before after fragment next level outer other
         let now_is : with_bytes i.now (offset - offset_behind 4 i.done) bytes ≡ later =
         ap (λ (n : ℕ). with_bytes i.now (n - offset_behind 4 i.done) bytes) place
         ∙ ap (λ (bs : List ℕ). with_bytes i.now (hole.offset - offset_behind 4 i.done) bs) closes.outcome.2 in
-        let outside : holes_outside next.held.id after.holes ≡ holes_outside fragment.held.id before.holes =
-        ap (λ (n : ℕ). holes_outside n after.holes) put.same.id
-        ∙ sym (ap (holes_outside fragment.held.id) closes.innermost ∙ outside_here fragment.held.id after.holes hole closes.outcome.0) in
+        let outside : holes_outside next.held.position after.holes ≡ holes_outside fragment.held.position before.holes =
+        ap (λ (n : ℕ). holes_outside n after.holes) put.same.position
+        ∙ sym (ap (holes_outside fragment.held.position) closes.innermost ∙ outside_here fragment.held.position after.holes hole closes.outcome.0) in
         let many : length before.holes ≡ length after.holes + 1 = ap length closes.innermost ∙ length-append after.holes (hole ∷ []) in
         record {
           pages = i.pages;
@@ -112,7 +112,7 @@ inside_ended site packet older view before after fragment next level outer other
           begun = held_same view.begun i.completed fragment.held.chunk next.held.chunk i.draft put.same.chunk i.begun;
           drafted = drafted_same i.draft fragment.count next.count fragment.continues next.continues i.done put.same.count put.same.continues i.drafted;
           shown = i.shown;
-          id = put.same.id ∙ i.id;
+          position = put.same.position ∙ i.position;
           sized = ap (λ (n : ℕ). (spot site.setup n).payload_size) put.same.chunk ∙ i.sized;
           whole = put.same.len ∙ i.whole;
           written = subst (λ (xs : List ℕ). IsWritten next.held.body.payload.items next.start next.at next.count i.done xs) now_is
@@ -128,17 +128,17 @@ inside_ended site packet older view before after fragment next level outer other
         }
     by_answer Later closes put =
         let hole : Hole = closes.hole in
-        let holes : reverse before.holes ≡ hole ∷ reverse after.holes = inner_first_closed before after fragment.held.id (length level) Later closes in
+        let holes : reverse before.holes ≡ hole ∷ reverse after.holes = inner_first_closed before after fragment.held.position (length level) Later closes in
         let writing : IsWriting site.size packet older i.pages fragment.continues i.done i.now before.unsent (hole ∷ reverse after.holes) [] =
         subst (λ (hs : List Hole). IsWriting site.size packet older i.pages fragment.continues i.done i.now before.unsent hs []) holes i.writing in
-        let apart : hole.chunk_id ≢ length i.pages = λ here. closes.outcome.0 (here ∙ sym i.id) in
+        let apart : hole.chunk_id ≢ length i.pages = λ here. closes.outcome.0 (here ∙ sym i.position) in
         let unsent : after.unsent ≡ before.unsent ++ patch_for hole (length level) ∷ [] = closes.outcome.1 in
         let some : 0 < length i.now =
         some_now i.pages fragment.continues i.done i.now fragment.start fragment.at
         (earlier_hole site.size packet older i.pages fragment.continues i.done i.now before.unsent hole (reverse after.holes) [] writing apart)
         i.written.start_is i.written.at_is byte in
-        let outside : holes_outside fragment.held.id before.holes ≡ holes_outside fragment.held.id after.holes + 1 =
-        ap (holes_outside fragment.held.id) closes.innermost ∙ outside_later fragment.held.id after.holes hole closes.outcome.0 in
+        let outside : holes_outside fragment.held.position before.holes ≡ holes_outside fragment.held.position after.holes + 1 =
+        ap (holes_outside fragment.held.position) closes.innermost ∙ outside_later fragment.held.position after.holes hole closes.outcome.0 in
         let many : length before.holes ≡ length after.holes + 1 = ap length closes.innermost ∙ length-append after.holes (hole ∷ []) in
         let more : length after.unsent ≡ length before.unsent + 1 = ap length unsent ∙ length-append before.unsent (patch_for hole (length level) ∷ []) in
         subst (λ (f : OpenFragment). InFragment site (with_nested_ended packet) older view after f []) (sym put)
@@ -151,7 +151,7 @@ inside_ended site packet older view before after fragment next level outer other
           begun = i.begun;
           drafted = i.drafted;
           shown = i.shown;
-          id = i.id;
+          position = i.position;
           sized = i.sized;
           whole = i.whole;
           written = i.written;
@@ -163,7 +163,7 @@ inside_ended site packet older view before after fragment next level outer other
 
 -- what a hole's closing needs of its place
 pub hole_within : (site : Site) (packet : Packet) (older : List Packet) (view : WriterView) (pending : Pending) (fragment : OpenFragment) (hole : Hole) (outer : List Hole)
-    → pending.holes ≡ outer ++ hole ∷ [] → hole.chunk_id ≡ fragment.held.id → InFragment site packet older view pending fragment []
+    → pending.holes ≡ outer ++ hole ∷ [] → hole.chunk_id ≡ fragment.held.position → InFragment site packet older view pending fragment []
     → hole.offset + 4 ≤ vec_len fragment.held.body.payload
 hole_within site packet older view pending fragment hole outer holes held i =
     let turned : reverse pending.holes ≡ hole ∷ reverse outer = ap reverse holes ∙ reverse-append outer (hole ∷ []) in
@@ -172,7 +172,7 @@ hole_within site packet older view pending fragment hole outer holes held i =
     let inner : HasInner packet.text.levels = writing_inner site.size packet older i.pages fragment.continues i.done i.now pending.unsent hole (reverse outer) [] writing in
     let stands : (offset_behind 4 i.done ≤ hole.offset) × (hole.offset + 4 ≤ offset_behind 4 i.done + length i.now) =
     hole_stands_here site.size packet older i.pages fragment.continues i.done i.now pending.unsent hole (reverse outer) [] inner.level inner.outer inner.others inner.is
-    (held ∙ i.id) writing in
+    (held ∙ i.position) writing in
     let behind : offset_behind 4 i.done ≡ fragment.start + 4 =
     written_offset fragment.held.body.payload.items fragment.start fragment.at fragment.count i.done i.now i.written in
     omega (arith, stands.1, behind, i.written.at_is, fragment.within)
@@ -182,18 +182,18 @@ record IsUnmoved (old new : OpenFragment) : Type 0 where
   start : new.start ≡ old.start
   at : new.at ≡ old.at
   continues : new.continues ≡ old.continues
-  id : new.held.id ≡ old.held.id
+  position : new.held.position ≡ old.held.position
 
 unmoved : (fragment next : OpenFragment) (before after : Pending) (value : ℕ) → AnswersClose fragment next before after value → IsUnmoved fragment next
 unmoved fragment next before after value closed = by_answer closed.answer closed.put
   where
     by_answer : (answer : Closed) → Closes fragment next answer → IsUnmoved fragment next
-    by_answer (Here offset bytes) put = record { start = put.same.start; at = closed.at; continues = put.same.continues; id = put.same.id }
+    by_answer (Here offset bytes) put = record { start = put.same.start; at = closed.at; continues = put.same.continues; position = put.same.position }
     by_answer Later put = record {
       start = ap (λ (f : OpenFragment). f.start) put;
       at = closed.at;
       continues = ap (λ (f : OpenFragment). f.continues) put;
-      id = ap (λ (f : OpenFragment). f.held.id) put;
+      position = ap (λ (f : OpenFragment). f.held.position) put;
     }
 
 -- The writer
@@ -263,16 +263,16 @@ agrees_ended setup place view new before state fragment next pending open_one la
     (λ continues first. subst (λ (n : ℕ). 4 < n) (sym same.at) (w.byte (sym same.continues ∙ continues) (sym same.start ∙ first)))
     w.ids
     (λ further h.
-    subst (λ (n : ℕ). further + cond (next.start == 0) (n - 4) 277 ≤ (4294967294 - next.held.id) * 277) (sym same.at)
-    (subst (λ (n : ℕ). further + cond (n == 0) (fragment.at - 4) 277 ≤ (4294967294 - next.held.id) * 277) (sym same.start)
-    (subst (λ (n : ℕ). further + cond (fragment.start == 0) (fragment.at - 4) 277 ≤ (4294967294 - n) * 277) (sym same.id)
+    subst (λ (n : ℕ). further + cond (next.start == 0) (n - 4) 277 ≤ (4294967294 - next.held.position) * 277) (sym same.at)
+    (subst (λ (n : ℕ). further + cond (n == 0) (fragment.at - 4) 277 ≤ (4294967294 - next.held.position) * 277) (sym same.start)
+    (subst (λ (n : ℕ). further + cond (fragment.start == 0) (fragment.at - 4) 277 ≤ (4294967294 - n) * 277) (sym same.position)
     (subst (λ (n : ℕ). HasIds fragment n) (omega arith) h)))))
 
 -- and of one that is thrown away
-pub agrees_ended_dropping : (setup : Setup) (place : ℕ) (view new : WriterView) (before : Writer) (state : State) (next_id : ℕ)
-    (open_one later : OpenPacket) (value : ℕ) → Agrees setup place view before → before.state ≡ Dropping next_id → state ≡ Dropping next_id
+pub agrees_ended_dropping : (setup : Setup) (place : ℕ) (view new : WriterView) (before : Writer) (state : State) (next_position : ℕ)
+    (open_one later : OpenPacket) (value : ℕ) → Agrees setup place view before → before.state ≡ Dropping next_position → state ≡ Dropping next_position
     → before.packet ≡ Some open_one → Pops open_one later value → new ≡ notes_call view Ended
     → Agrees setup place new (record before { state = state; packet = Some later })
-agrees_ended_dropping setup place view new before state next_id open_one later value a was state_is packet_is pops new_is =
-    agrees_dropping setup place view new before state next_id open_one later 0 with_nested_ended Ended a was state_is packet_is grows_ended
+agrees_ended_dropping setup place view new before state next_position open_one later value a was state_is packet_is pops new_is =
+    agrees_dropping setup place view new before state next_position open_one later 0 with_nested_ended Ended a was state_is packet_is grows_ended
     (λ packet some m. pops_measured open_one later value packet pops m) (λ account. refl) new_is

@@ -27,14 +27,14 @@ use Rattle.trace_writer.proofs.holding.Publishing.{fits}
 use Rattle.trace_writer.proofs.stops.Idling.{newest_of, changed_idle, flushed_idle, completed_idle, behind_content, begun_one_more, flushed_fresh}
 
 -- a lost packet is finished
-pub finish_lost : (setup : Setup) (place : ℕ) (view new : WriterView) (writer after : Writer) (next_id : ℕ)
-    → writer.state ≡ Dropping next_id → new ≡ notes_call view Finished
-    → after ≡ record writer { state = Idle next_id; packet = None; follows_loss = true }
+pub finish_lost : (setup : Setup) (place : ℕ) (view new : WriterView) (writer after : Writer) (next_position : ℕ)
+    → writer.state ≡ Dropping next_position → new ≡ notes_call view Finished
+    → after ≡ record writer { state = Idle next_position; packet = None; follows_loss = true }
     → Agrees setup place view writer → Agrees setup place new after
-finish_lost setup place view new writer after next_id state notes is agrees =
+finish_lost setup place view new writer after next_position state notes is agrees =
     let site : Site = site_of setup place writer.route in
     let account : Account = account_of view.calls in
-    let w : (next_id ≡ length view.begun) × IsThrownAway site account view writer.pending = subst (StateAgrees site account view writer.pending) state agrees.state in
+    let w : (next_position ≡ length view.begun) × IsThrownAway site account view writer.pending = subst (StateAgrees site account view writer.pending) state agrees.state in
     let thrown : IsThrownAway site account view writer.pending = w.1 in
     let later : Packet = finished_packet thrown.packet in
     let calls : account_of new.calls ≡ newest_of later thrown.older =
@@ -56,12 +56,12 @@ finish_lost setup place view new writer after next_id state notes is agrees =
     })
 
 -- what a flush leaves of all but the state: the packets, and what is counted of them
-flushed_agrees : (setup : Setup) (place : ℕ) (view new : WriterView) (writer after : Writer) (next_id : ℕ) (pending : Pending)
+flushed_agrees : (setup : Setup) (place : ℕ) (view new : WriterView) (writer after : Writer) (next_position : ℕ) (pending : Pending)
     → is_begun writer.packet ≡ false → new.calls ≡ view.calls ++ Flushed ∷ [] → after.route ≡ writer.route → after.pending ≡ pending
-    → after.state ≡ Idle next_id → after.packet ≡ writer.packet → after.follows_loss ≡ writer.follows_loss → after.begun ≡ writer.begun → after.dropped ≡ writer.dropped
-    → next_id ≡ length new.begun → IsIdle (site_of setup place writer.route) (record (account_of view.calls) { flushed = true }) new pending
+    → after.state ≡ Idle next_position → after.packet ≡ writer.packet → after.follows_loss ≡ writer.follows_loss → after.begun ≡ writer.begun → after.dropped ≡ writer.dropped
+    → next_position ≡ length new.begun → IsIdle (site_of setup place writer.route) (record (account_of view.calls) { flushed = true }) new pending
     → Agrees setup place view writer → Agrees setup place new after
-flushed_agrees setup place view new writer after next_id pending none notes route pending_is state packet follows begun dropped next idle agrees =
+flushed_agrees setup place view new writer after next_position pending none notes route pending_is state packet follows begun dropped next idle agrees =
     let calls : account_of new.calls ≡ record (account_of view.calls) { flushed = true } = ap account_of notes ∙ account_one view.calls Flushed in
     let packets : (account_of new.calls).packets ≡ (account_of view.calls).packets = ap (λ (a : Account). a.packets) calls in
     record {
@@ -78,25 +78,25 @@ flushed_agrees setup place view new writer after next_id pending none notes rout
       dropped = dropped ∙ agrees.dropped ∙ sym (ap (λ (ps : List Packet). counted (dropped_in ps)) packets);
     }
 
-pub flush_idle : (setup : Setup) (place : ℕ) (view new : WriterView) (writer after : Writer) (next_id : ℕ)
-    → writer.state ≡ Idle next_id → is_begun writer.packet ≡ false → new ≡ notes_call view Flushed → after ≡ record writer { state = Idle next_id }
+pub flush_idle : (setup : Setup) (place : ℕ) (view new : WriterView) (writer after : Writer) (next_position : ℕ)
+    → writer.state ≡ Idle next_position → is_begun writer.packet ≡ false → new ≡ notes_call view Flushed → after ≡ record writer { state = Idle next_position }
     → Agrees setup place view writer → Agrees setup place new after
-flush_idle setup place view new writer after next_id state none notes is agrees =
+flush_idle setup place view new writer after next_position state none notes is agrees =
     let site : Site = site_of setup place writer.route in
-    let w : (next_id ≡ length view.begun) × IsIdle site (account_of view.calls) view writer.pending = subst (StateAgrees site (account_of view.calls) view writer.pending) state agrees.state in
+    let w : (next_position ≡ length view.begun) × IsIdle site (account_of view.calls) view writer.pending = subst (StateAgrees site (account_of view.calls) view writer.pending) state agrees.state in
     let begun : new.begun ≡ view.begun = ap (λ (v : WriterView). v.begun) notes in
     subst (Agrees setup place new) (sym is)
-    (flushed_agrees setup place view new writer (record writer { state = Idle next_id }) next_id writer.pending none (ap (λ (v : WriterView). v.calls) notes) refl refl refl refl refl refl refl
+    (flushed_agrees setup place view new writer (record writer { state = Idle next_position }) next_position writer.pending none (ap (λ (v : WriterView). v.calls) notes) refl refl refl refl refl refl refl
     (w.0 ∙ sym (ap length begun)) (flushed_idle site (account_of view.calls) view new writer.pending begun w.1) agrees)
 
-pub flush_held : (setup : Setup) (place : ℕ) (view between new : WriterView) (writer after : Writer) (pending : Pending) (chunk : HeldChunk) (next_id : ℕ)
-    → writer.state ≡ Between chunk → is_begun writer.packet ≡ false → chunk.count ≤ 1023 → next_id ≡ chunk.held.id + 1
+pub flush_held : (setup : Setup) (place : ℕ) (view between new : WriterView) (writer after : Writer) (pending : Pending) (chunk : HeldChunk) (next_position : ℕ)
+    → writer.state ≡ Between chunk → is_begun writer.packet ≡ false → chunk.count ≤ 1023 → next_position ≡ chunk.held.position + 1
     → pending ≡ record writer.pending { unsent = [] }
-    → between ≡ completes view chunk.held.chunk chunk.held.id (behind_content (site_of setup place writer.route) writer.pending chunk)
+    → between ≡ completes view chunk.held.chunk chunk.held.position (behind_content (site_of setup place writer.route) writer.pending chunk)
     → new ≡ notes_call between Flushed
-    → after ≡ record writer { state = Idle next_id; pending = pending }
+    → after ≡ record writer { state = Idle next_position; pending = pending }
     → Agrees setup place view writer → Agrees setup place new after
-flush_held setup place view between new writer after pending chunk next_id state none few next pending_is completes_it notes is agrees =
+flush_held setup place view between new writer after pending chunk next_position state none few next pending_is completes_it notes is agrees =
     let site : Site = site_of setup place writer.route in
     let behind : IsBehind site (account_of view.calls) view writer.pending chunk = subst (StateAgrees site (account_of view.calls) view writer.pending) state agrees.state in
     let begun : new.begun ≡ between.begun = ap (λ (v : WriterView). v.begun) notes in
@@ -105,12 +105,12 @@ flush_held setup place view between new writer after pending chunk next_id state
     let calls : new.calls ≡ view.calls ++ Flushed ∷ [] =
     ap (λ (v : WriterView). v.calls) notes ∙ ap (λ (v : WriterView). v.calls ++ Flushed ∷ []) completes_it in
     subst (Agrees setup place new) (sym is)
-    (flushed_agrees setup place view new writer (record writer { state = Idle next_id; pending = pending }) next_id pending none calls refl refl refl refl refl refl refl
+    (flushed_agrees setup place view new writer (record writer { state = Idle next_position; pending = pending }) next_position pending none calls refl refl refl refl refl refl refl
     (next ∙ sym (ap length begun ∙ begun_one_more site (account_of view.calls) view between writer.pending chunk (behind_content site writer.pending chunk) completes_it behind)) idle agrees)
 
-pub idle_of : (setup : Setup) (place : ℕ) (view : WriterView) (writer : Writer) (next_id : ℕ) → writer.state ≡ Idle next_id → Agrees setup place view writer
+pub idle_of : (setup : Setup) (place : ℕ) (view : WriterView) (writer : Writer) (next_position : ℕ) → writer.state ≡ Idle next_position → Agrees setup place view writer
     → IsIdle (site_of setup place writer.route) (account_of view.calls) view writer.pending
-idle_of setup place view writer next_id state agrees =
+idle_of setup place view writer next_position state agrees =
     (subst (StateAgrees (site_of setup place writer.route) (account_of view.calls) view writer.pending) state agrees.state).1
 
 -- What the completion of a held chunk asks.
@@ -136,7 +136,7 @@ behind_fits site account view pending chunk behind =
     let long : length chunk.held.body.payload.items ≡ vec_len chunk.held.body.payload = sym chunk.held.body.payload.ok.0 in
     let many = ap (λ (xs : List (List ℕ)). length xs) behind.parts in
     fits site.setup view chunk behind.draft chunk.continues behind.completed [] (chunk.count - 1) chunk.count (vec_len chunk.held.body.payload) behind.before behind.before rest rest
-    behind.begun (behind.id ∙ sym (shows_long site 0 behind.completed behind.pages behind.shown)) (behind.whole ∙ sym behind.sized) payload
+    behind.begun (behind.position ∙ sym (shows_long site 0 behind.completed behind.pages behind.shown)) (behind.whole ∙ sym behind.sized) payload
     (omega (arith, behind.filled.count_is, many, length-append behind.before (behind.last ∷ []))) (omega (arith, long, ap length payload, length-append (frames behind.before) rest))
     payload behind.sealed behind.drafted
 
@@ -147,18 +147,18 @@ behind_fits_next site account view pending chunk behind =
     let rest : List ℕ = frames (behind.last ∷ []) ++ behind.filled.rest in
     let payload : chunk.held.body.payload.items ≡ frames behind.before ++ rest = behind_payload site account view pending chunk behind in
     fits site.setup view chunk behind.draft chunk.continues behind.completed [] chunk.count chunk.count chunk.at all behind.before behind.filled.rest rest
-    behind.begun (behind.id ∙ sym (shows_long site 0 behind.completed behind.pages behind.shown)) (behind.whole ∙ sym behind.sized) behind.filled.payload_is
+    behind.begun (behind.position ∙ sym (shows_long site 0 behind.completed behind.pages behind.shown)) (behind.whole ∙ sym behind.sized) behind.filled.payload_is
     behind.filled.count_is (omega (arith, behind.filled.at_is)) payload behind.sealed behind.drafted
 
 pub behind_head : (site : Site) (account : Account) (view : WriterView) (pending : Pending) (chunk : HeldChunk) → IsBehind site account view pending chunk
-    → head_at view chunk.held.id ≡ held_head chunk.count chunk.continues
+    → head_at view chunk.held.position ≡ held_head chunk.count chunk.continues
 behind_head site account view pending chunk behind =
-    ap (λ (d : Draft). d.head) (draft_here view behind.completed [] chunk.held.chunk chunk.held.id behind.draft behind.begun
-    (behind.id ∙ sym (shows_long site 0 behind.completed behind.pages behind.shown)))
+    ap (λ (d : Draft). d.head) (draft_here view behind.completed [] chunk.held.chunk chunk.held.position behind.draft behind.begun
+    (behind.position ∙ sym (shows_long site 0 behind.completed behind.pages behind.shown)))
     ∙ behind.drafted.head
 
-pub behind_id : (site : Site) (account : Account) (view : WriterView) (pending : Pending) (chunk : HeldChunk) → IsBehind site account view pending chunk
-    → chunk.held.id + 1 ≡ length view.begun
-behind_id site account view pending chunk behind =
+pub behind_position : (site : Site) (account : Account) (view : WriterView) (pending : Pending) (chunk : HeldChunk) → IsBehind site account view pending chunk
+    → chunk.held.position + 1 ≡ length view.begun
+behind_position site account view pending chunk behind =
     let many : length view.begun ≡ length behind.completed + 1 = ap length behind.begun ∙ length-append behind.completed (Held chunk.held.chunk behind.draft ∷ []) in
-    omega (arith, many, shows_long site 0 behind.completed behind.pages behind.shown, behind.id)
+    omega (arith, many, shows_long site 0 behind.completed behind.pages behind.shown, behind.position)

@@ -58,7 +58,7 @@ room_is size at count within few = grind (arith, nat_tests)
 -- what the chunk has once the fragment's size is put in
 pub record IsEnded (fragment : OpenFragment) (chunk : HeldChunk) : Type 0 where
   pub chunk_is : chunk.held.chunk ≡ fragment.held.chunk
-  pub id : chunk.held.id ≡ fragment.held.id
+  pub position : chunk.held.position ≡ fragment.held.position
   pub bytes : chunk.held.body.payload.items ≡ with_bytes fragment.held.body.payload.items fragment.start (redundant (fragment.at - fragment.start - 4))
   pub len : vec_len chunk.held.body.payload ≡ vec_len fragment.held.body.payload
   pub sealed : chunk.sealed ≡ fragment.start
@@ -145,7 +145,7 @@ finished_behind site packet older view new pending fragment chunk within few no_
       drafted = subst (λ (n : ℕ). IsDrafted inside.draft n chunk.continues done) (sym ended.count)
           (subst (λ (b : Bool). IsDrafted inside.draft fragment.count b done) (sym ended.continues) inside.drafted);
       shown = inside.shown;
-      id = ended.id ∙ inside.id;
+      position = ended.position ∙ inside.position;
       sized = ap (λ (n : ℕ). (spot site.setup n).payload_size) ended.chunk_is ∙ inside.sized;
       whole = ended.len ∙ inside.whole;
       filled = subst (IsFilled chunk.held.body.payload.items chunk.at chunk.count) parts.is (record {

@@ -62,7 +62,7 @@ pub record GivesIn (site : Site) (packet : Packet) (older : List Packet) (pages 
 pub record ClosesIn (site : Site) (view : WriterView) (before pending : Pending) (first fragment : OpenFragment) : Type 0 where
   pub same : IsSameChunk first fragment
   pub at : fragment.at ≡ first.at
-  pub room : length pending.unsent + holes_outside first.held.id pending.holes ≤ MAX_OPEN_HOLES
+  pub room : length pending.unsent + holes_outside first.held.position pending.holes ≤ MAX_OPEN_HOLES
   pub gives : (packet : Packet) (older : List Packet) (text : Text) (w : InFragment site packet older view before first [])
       → GivesUp site.size packet older w.pages first.continues w.done w.now before.unsent (reverse before.holes) text
       → GivesIn site packet older w.pages w.done pending fragment text
@@ -70,7 +70,7 @@ pub record ClosesIn (site : Site) (view : WriterView) (before pending : Pending)
 pub closes_none : (site : Site) (packet : Packet) (older : List Packet) (view : WriterView) (pending : Pending) (fragment : OpenFragment)
     → InFragment site packet older view pending fragment [] → ClosesIn site view pending pending fragment fragment
 closes_none site packet older view pending fragment inside = record {
-  same = record { chunk = refl; id = refl; patches = refl; start = refl; count = refl; continues = refl; len = refl };
+  same = record { chunk = refl; position = refl; patches = refl; start = refl; count = refl; continues = refl; len = refl };
   at = refl;
   room = inside.room;
   gives = λ packet older text w giving. record { now = w.now; written = w.written; giving = giving };
@@ -80,15 +80,15 @@ closes_none site packet older view pending fragment inside = record {
 
 -- it is in the held chunk
 gives_here : (site : Site) (packet : Packet) (older : List Packet) (pages : List Page) (done : List (List ℕ)) (old new : Pending) (fragment next : OpenFragment) (text : Text)
-    (offset : ℕ) (bytes : List ℕ) → ClosesHole old new fragment.held.id 0 (Here offset bytes) → IsPutInto fragment next offset bytes → next.at ≡ fragment.at
-    → fragment.held.id ≡ length pages → GivesIn site packet older pages done old fragment text → GivesIn site packet older pages done new next text
-gives_here site packet older pages done old new fragment next text offset bytes closes put at id g =
+    (offset : ℕ) (bytes : List ℕ) → ClosesHole old new fragment.held.position 0 (Here offset bytes) → IsPutInto fragment next offset bytes → next.at ≡ fragment.at
+    → fragment.held.position ≡ length pages → GivesIn site packet older pages done old fragment text → GivesIn site packet older pages done new next text
+gives_here site packet older pages done old new fragment next text offset bytes closes put at position g =
     let hole : Hole = closes.hole in
     let rest : List Hole = reverse new.holes in
-    let held : hole.chunk_id ≡ length pages = closes.outcome.0 ∙ id in
+    let held : hole.chunk_id ≡ length pages = closes.outcome.0 ∙ position in
     let giving : GivesUp site.size packet older pages fragment.continues done g.now old.unsent (hole ∷ rest) text =
     subst (λ (hs : List Hole). GivesUp site.size packet older pages fragment.continues done g.now old.unsent hs text)
-    (inner_first_closed old new fragment.held.id 0 (Here offset bytes) closes) g.giving in
+    (inner_first_closed old new fragment.held.position 0 (Here offset bytes) closes) g.giving in
     let stands : (offset_behind 4 done ≤ hole.offset) × (hole.offset + 4 ≤ offset_behind 4 done + length g.now) =
     gives_up_stands_here site.size packet older pages fragment.continues done g.now old.unsent hole rest text held giving in
     let begins : offset_behind 4 done ≡ fragment.start + 4 =
@@ -112,47 +112,47 @@ gives_here site packet older pages done old new fragment next text offset bytes 
 
 -- it is in an earlier one
 gives_later : (site : Site) (packet : Packet) (older : List Packet) (pages : List Page) (done : List (List ℕ)) (old new : Pending) (fragment : OpenFragment) (text : Text)
-    → ClosesHole old new fragment.held.id 0 Later → fragment.held.id ≡ length pages
+    → ClosesHole old new fragment.held.position 0 Later → fragment.held.position ≡ length pages
     → GivesIn site packet older pages done old fragment text → GivesIn site packet older pages done new fragment text
-gives_later site packet older pages done old new fragment text closes id g =
+gives_later site packet older pages done old new fragment text closes position g =
     let hole : Hole = closes.hole in
     let giving : GivesUp site.size packet older pages fragment.continues done g.now old.unsent (hole ∷ reverse new.holes) text =
     subst (λ (hs : List Hole). GivesUp site.size packet older pages fragment.continues done g.now old.unsent hs text)
-    (inner_first_closed old new fragment.held.id 0 Later closes) g.giving in
+    (inner_first_closed old new fragment.held.position 0 Later closes) g.giving in
     record {
       now = g.now;
       written = g.written;
       giving = subst (λ (unsent : List Patch). GivesUp site.size packet older pages fragment.continues done g.now unsent (reverse new.holes) text) (sym closes.outcome.1)
           (gives_up_later site.size packet older pages fragment.continues done g.now old.unsent hole (reverse new.holes) text
-          (λ same. closes.outcome.0 (same ∙ sym id)) giving);
+          (λ same. closes.outcome.0 (same ∙ sym position)) giving);
     }
 
 closes_one : (site : Site) (view : WriterView) (before old new : Pending) (first fragment next : OpenFragment) (answer : Closed)
-    → ClosesHole old new fragment.held.id 0 answer → Closes fragment next answer → next.at ≡ fragment.at
+    → ClosesHole old new fragment.held.position 0 answer → Closes fragment next answer → next.at ≡ fragment.at
     → ClosesIn site view before old first fragment → ClosesIn site view before new first next
 closes_one site view before old new first fragment next (Here offset bytes) closes put at h =
-    let held : closes.hole.chunk_id ≡ first.held.id = closes.outcome.0 ∙ h.same.id in
-    let outside : holes_outside first.held.id old.holes ≡ holes_outside first.held.id new.holes =
-    ap (holes_outside first.held.id) closes.innermost ∙ outside_here first.held.id new.holes closes.hole held in
+    let held : closes.hole.chunk_id ≡ first.held.position = closes.outcome.0 ∙ h.same.position in
+    let outside : holes_outside first.held.position old.holes ≡ holes_outside first.held.position new.holes =
+    ap (holes_outside first.held.position) closes.innermost ∙ outside_here first.held.position new.holes closes.hole held in
     let unsent : length new.unsent ≡ length old.unsent = ap length closes.outcome.3 in
     record {
       same = same_both first fragment next h.same put.same;
       at = at ∙ h.at;
       room = omega (arith, h.room, outside, unsent);
       gives = λ packet older text w giving.
-          gives_here site packet older w.pages w.done old new fragment next text offset bytes closes put at (h.same.id ∙ w.id) (h.gives packet older text w giving);
+          gives_here site packet older w.pages w.done old new fragment next text offset bytes closes put at (h.same.position ∙ w.position) (h.gives packet older text w giving);
     }
 closes_one site view before old new first fragment next Later closes put at h =
-    let apart : closes.hole.chunk_id ≢ first.held.id = λ same. closes.outcome.0 (same ∙ sym h.same.id) in
-    let outside : holes_outside first.held.id old.holes ≡ holes_outside first.held.id new.holes + 1 =
-    ap (holes_outside first.held.id) closes.innermost ∙ outside_later first.held.id new.holes closes.hole apart in
+    let apart : closes.hole.chunk_id ≢ first.held.position = λ same. closes.outcome.0 (same ∙ sym h.same.position) in
+    let outside : holes_outside first.held.position old.holes ≡ holes_outside first.held.position new.holes + 1 =
+    ap (holes_outside first.held.position) closes.innermost ∙ outside_later first.held.position new.holes closes.hole apart in
     let unsent : length new.unsent ≡ length old.unsent + 1 = ap length closes.outcome.1 ∙ length-append old.unsent (patch_for closes.hole 0 ∷ []) in
     subst (ClosesIn site view before new first) (sym put) (record {
       same = h.same;
       at = h.at;
       room = omega (arith, h.room, outside, unsent);
       gives = λ packet older text w giving.
-          gives_later site packet older w.pages w.done old new fragment text closes (h.same.id ∙ w.id) (h.gives packet older text w giving);
+          gives_later site packet older w.pages w.done old new fragment text closes (h.same.position ∙ w.position) (h.gives packet older text w giving);
     })
 
 pub closes_further : (site : Site) (view : WriterView) (before old new : Pending) (first fragment next : OpenFragment) → AnswersClose fragment next old new 0
@@ -172,7 +172,7 @@ given_nested site packet older view pending fragment w =
 -- a hole of the held chunk is inside its payload
 pub closes_within : (site : Site) (packet : Packet) (older : List Packet) (view : WriterView) (before pending : Pending) (first fragment : OpenFragment)
     (w : InFragment site packet older view before first []) → ClosesIn site view before pending first fragment
-    → (hole : Hole) (outer : List Hole) → pending.holes ≡ outer ++ hole ∷ [] → hole.chunk_id ≡ fragment.held.id
+    → (hole : Hole) (outer : List Hole) → pending.holes ≡ outer ++ hole ∷ [] → hole.chunk_id ≡ fragment.held.position
     → hole.offset + 4 ≤ vec_len fragment.held.body.payload
 closes_within site packet older view before pending first fragment w h hole outer innermost here =
     let g : GivesIn site packet older w.pages w.done pending fragment (with_open (with_more [] packet)).text =
@@ -180,7 +180,7 @@ closes_within site packet older view before pending first fragment w h hole oute
     let holes : reverse pending.holes ≡ hole ∷ reverse outer = ap reverse innermost ∙ reverse-append outer (hole ∷ []) in
     let stands : (offset_behind 4 w.done ≤ hole.offset) × (hole.offset + 4 ≤ offset_behind 4 w.done + length g.now) =
     gives_up_stands_here site.size packet older w.pages fragment.continues w.done g.now pending.unsent hole (reverse outer) (with_open (with_more [] packet)).text
-    (here ∙ h.same.id ∙ w.id)
+    (here ∙ h.same.position ∙ w.position)
     (subst (λ (hs : List Hole). GivesUp site.size packet older w.pages fragment.continues w.done g.now pending.unsent hs (with_open (with_more [] packet)).text) holes g.giving) in
     let begins : offset_behind 4 w.done ≡ fragment.start + 4 =
     written_offset fragment.held.body.payload.items fragment.start fragment.at fragment.count w.done g.now g.written in
@@ -209,8 +209,8 @@ pub record EndsGivenUp (site : Site) (old new : WriterView) (before after : Pend
   pub none_left : after ≡ record pending { unsent = [] }
   pub payload : List ℕ
   pub payload_is : payload ≡ with_bytes last.held.body.payload.items last.start drop_mark
-  pub begun : (completed : List BegunChunk) (draft : Draft) → old.begun ≡ completed ++ Held first.held.chunk draft ∷ [] → first.held.id ≡ length completed
-      → new.begun ≡ completed ++ Completed first.held.chunk (completed_chunk site.place first.held.id first.count (flags_value first.continues false false) payload (with_lasts [] pending.unsent) site.buffer) ∷ []
+  pub begun : (completed : List BegunChunk) (draft : Draft) → old.begun ≡ completed ++ Held first.held.chunk draft ∷ [] → first.held.position ≡ length completed
+      → new.begun ≡ completed ++ Completed first.held.chunk (completed_chunk site.place first.held.position first.count (flags_value first.continues false false) payload (with_lasts [] pending.unsent) site.buffer) ∷ []
 
 fresh_lost : (size : ℕ) (packet : Packet) (older : List Packet) (text : Text) (chains : List Chain) → packet.kept ≡ true → packet.given_up ≡ Some text
     → is_fresh size false (packet ∷ older) chains ≡ true
@@ -249,7 +249,7 @@ given_idle site packet next older old new before after first text kept_is flush 
     subst (λ (hs : List Hole). GivesUp site.size packet older w.pages first.continues w.done g.now e.pending.unsent (reverse hs) text) e.none_open
     (subst (λ (c : Bool). GivesUp site.size packet older w.pages c w.done g.now e.pending.unsent (reverse e.pending.holes) text) same.continues g.giving) in
     let kept : next.kept ≡ true = kept_is ∙ w.writing.kept in
-    let last_is : first.held.id ≡ 0 + length w.pages = omega (arith, w.id) in
+    let last_is : first.held.position ≡ 0 + length w.pages = omega (arith, w.position) in
     let count : first.count ≡ length fragments = written.count_is ∙ sym (length-append w.done ((g.now ++ written.rest) ∷ [])) in
     let laid_is : e.payload ≡ laid true fragments [] =
     e.payload_is
@@ -258,8 +258,8 @@ given_idle site packet next older old new before after first text kept_is flush 
     record {
       pages = pages;
       shown = subst (λ (begun : List BegunChunk). ShowsPages site 0 begun pages)
-          (sym (e.begun w.completed w.draft w.begun (w.id ∙ sym (shows_long site 0 w.completed w.pages w.shown))))
-          (shows_one site 0 first.held.id first.held.chunk w.completed w.pages _ page w.shown last_is (content_is site first.held.id first.count e.payload page count laid_is));
+          (sym (e.begun w.completed w.draft w.begun (w.position ∙ sym (shows_long site 0 w.completed w.pages w.shown))))
+          (shows_one site 0 first.held.position first.held.chunk w.completed w.pages _ page w.shown last_is (content_is site first.held.position first.count e.payload page count laid_is));
       holes = ap (λ (p : Pending). p.holes) e.none_left ∙ e.none_open;
       unsent = ap (λ (p : Pending). p.unsent) e.none_left;
       ended = last_runs_on-one w.pages false page;
@@ -272,9 +272,9 @@ given_idle site packet next older old new before after first text kept_is flush 
 
 -- the view of the writer once the chunk is completed
 abbrev completion : Site → WriterView → List ℕ → List Patch → ℕ → ℕ → ℕ → Bool → List Hole → WriterView
-completion site old payload unsent chunk id count continues holes =
-    completes old chunk id
-    (completed_chunk site.place id count (flags_value continues false false) payload (with_lasts (hole_chunks holes) unsent) site.buffer)
+completion site old payload unsent chunk position count continues holes =
+    completes old chunk position
+    (completed_chunk site.place position count (flags_value continues false false) payload (with_lasts (hole_chunks holes) unsent) site.buffer)
 
 none_open : (holes : List Hole) → length holes ≤ 0 → holes ≡ []
 none_open [] none = refl
@@ -286,20 +286,20 @@ pub ends_given_up : (site : Site) (old new : WriterView) (before mid after : Pen
     → chunk.held.body.payload.items ≡ with_bytes last.held.body.payload.items last.start drop_mark
     → chunk.count ≡ last.count → chunk.continues ≡ last.continues
     → after ≡ record mid { unsent = [] }
-    → new ≡ completion site old chunk.held.body.payload.items mid.unsent chunk.held.chunk chunk.held.id chunk.count chunk.continues mid.holes
+    → new ≡ completion site old chunk.held.body.payload.items mid.unsent chunk.held.chunk chunk.held.position chunk.count chunk.continues mid.holes
     → EndsGivenUp site old new before after first
 ends_given_up site old new before mid after first last chunk closes none held bytes count_is continues_is after_is view =
     let holes : mid.holes ≡ [] = none_open mid.holes none in
     let payload : List ℕ = chunk.held.body.payload.items in
     let chunk_is : chunk.held.chunk ≡ first.held.chunk = ap (λ (h : HeldToken). h.chunk) held ∙ closes.same.chunk in
-    let id_is : chunk.held.id ≡ first.held.id = ap (λ (h : HeldToken). h.id) held ∙ closes.same.id in
-    let is : new ≡ completion site old payload mid.unsent first.held.chunk first.held.id first.count first.continues [] =
+    let position_is : chunk.held.position ≡ first.held.position = ap (λ (h : HeldToken). h.position) held ∙ closes.same.position in
+    let is : new ≡ completion site old payload mid.unsent first.held.chunk first.held.position first.count first.continues [] =
     view
-    ∙ ap (λ (c : ℕ). completion site old payload mid.unsent c chunk.held.id chunk.count chunk.continues mid.holes) chunk_is
-    ∙ ap (λ (i : ℕ). completion site old payload mid.unsent first.held.chunk i chunk.count chunk.continues mid.holes) id_is
-    ∙ ap (λ (n : ℕ). completion site old payload mid.unsent first.held.chunk first.held.id n chunk.continues mid.holes) (count_is ∙ closes.same.count)
-    ∙ ap (λ (c : Bool). completion site old payload mid.unsent first.held.chunk first.held.id first.count c mid.holes) (continues_is ∙ closes.same.continues)
-    ∙ ap (λ (hs : List Hole). completion site old payload mid.unsent first.held.chunk first.held.id first.count first.continues hs) holes in
+    ∙ ap (λ (c : ℕ). completion site old payload mid.unsent c chunk.held.position chunk.count chunk.continues mid.holes) chunk_is
+    ∙ ap (λ (i : ℕ). completion site old payload mid.unsent first.held.chunk i chunk.count chunk.continues mid.holes) position_is
+    ∙ ap (λ (n : ℕ). completion site old payload mid.unsent first.held.chunk first.held.position n chunk.continues mid.holes) (count_is ∙ closes.same.count)
+    ∙ ap (λ (c : Bool). completion site old payload mid.unsent first.held.chunk first.held.position first.count c mid.holes) (continues_is ∙ closes.same.continues)
+    ∙ ap (λ (hs : List Hole). completion site old payload mid.unsent first.held.chunk first.held.position first.count first.continues hs) holes in
     record {
       pending = mid;
       last = last;
@@ -309,7 +309,7 @@ ends_given_up site old new before mid after first last chunk closes none held by
       none_left = after_is;
       payload = payload;
       payload_is = bytes;
-      begun = λ completed draft begun at. completed_here old new completed [] first.held.chunk first.held.id draft _ begun at is;
+      begun = λ completed draft begun at. completed_here old new completed [] first.held.chunk first.held.position draft _ begun at is;
     }
 
 -- What is lost of the packet
@@ -359,7 +359,7 @@ pub dropped_fits : (site : Site) (packet : Packet) (older : List Packet) (view :
     → vec_len chunk.held.body.payload ≡ vec_len last.held.body.payload → chunk.sealed ≡ last.start → chunk.count ≡ last.count
     → IsFit site.setup view chunk (chunk.count - 1) (vec_len chunk.held.body.payload)
 dropped_fits site packet older view before mid first last chunk w h held bytes len sealed count_is =
-    let id : chunk.held.id ≡ first.held.id = ap (λ (t : HeldToken). t.id) held ∙ h.same.id in
+    let position : chunk.held.position ≡ first.held.position = ap (λ (t : HeldToken). t.position) held ∙ h.same.position in
     let chunk_is : chunk.held.chunk ≡ first.held.chunk = ap (λ (t : HeldToken). t.chunk) held ∙ h.same.chunk in
     let start : last.start ≡ length (frames w.done) = h.same.start ∙ w.written.start_is in
     let g : GivesIn site packet older w.pages w.done mid last (with_open (with_more [] packet)).text =
@@ -373,7 +373,7 @@ dropped_fits site packet older view before mid first last chunk w h held bytes l
     fits site.setup view chunk w.draft first.continues w.completed [] (chunk.count - 1) first.count (vec_len chunk.held.body.payload) w.done w.done
     (with_bytes behind 0 drop_mark) (with_bytes behind 0 drop_mark)
     (w.begun ∙ ap (λ (c : ℕ). w.completed ++ Held c w.draft ∷ []) (sym chunk_is))
-    (id ∙ w.id ∙ sym (shows_long site 0 w.completed w.pages w.shown))
+    (position ∙ w.position ∙ sym (shows_long site 0 w.completed w.pages w.shown))
     (len ∙ h.same.len ∙ w.whole ∙ sym w.sized ∙ ap (λ (c : ℕ). (spot site.setup c).payload_size) (sym chunk_is))
     payload (omega (arith, count_is, h.same.count, w.written.count_is)) (omega (arith, long, ap length payload, length-append (frames w.done) (with_bytes behind 0 drop_mark)))
     payload (sealed ∙ start) w.drafted
@@ -381,10 +381,10 @@ dropped_fits site packet older view before mid first last chunk w h held bytes l
 pub dropped_head : (site : Site) (packet : Packet) (older : List Packet) (view : WriterView) (before mid : Pending) (first last : OpenFragment) (chunk : HeldChunk)
     → InFragment site packet older view before first [] → ClosesIn site view before mid first last
     → chunk.held ≡ record last.held { body = record last.held.body { payload = chunk.held.body.payload } }
-    → chunk.count ≡ last.count → chunk.continues ≡ last.continues → head_at view chunk.held.id ≡ held_head chunk.count chunk.continues
+    → chunk.count ≡ last.count → chunk.continues ≡ last.continues → head_at view chunk.held.position ≡ held_head chunk.count chunk.continues
 dropped_head site packet older view before mid first last chunk w h held count_is continues_is =
-    let id : chunk.held.id ≡ first.held.id = ap (λ (t : HeldToken). t.id) held ∙ h.same.id in
-    ap (λ (d : Draft). d.head) (draft_here view w.completed [] first.held.chunk chunk.held.id w.draft w.begun (id ∙ w.id ∙ sym (shows_long site 0 w.completed w.pages w.shown)))
+    let position : chunk.held.position ≡ first.held.position = ap (λ (t : HeldToken). t.position) held ∙ h.same.position in
+    ap (λ (d : Draft). d.head) (draft_here view w.completed [] first.held.chunk chunk.held.position w.draft w.begun (position ∙ w.position ∙ sym (shows_long site 0 w.completed w.pages w.shown)))
     ∙ w.drafted.head
     ∙ ap (λ (n : ℕ). held_head n first.continues) (sym (count_is ∙ h.same.count))
     ∙ ap (λ (c : Bool). held_head chunk.count c) (sym (continues_is ∙ h.same.continues))

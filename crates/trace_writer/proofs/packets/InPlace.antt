@@ -55,7 +55,7 @@ with_bytes_both old one two at fits =
 pub same_both : (old mid new : OpenFragment) → IsSameChunk old mid → IsSameChunk mid new → IsSameChunk old new
 same_both old mid new first second = record {
   chunk = second.chunk ∙ first.chunk;
-  id = second.id ∙ first.id;
+  position = second.position ∙ first.position;
   patches = second.patches ∙ first.patches;
   start = second.start ∙ first.start;
   count = second.count ∙ first.count;
@@ -158,8 +158,8 @@ agrees_opened setup place view new before after field tag a puts fits few tag_is
 -- where no further chunk is needed and nothing fits into a fragment, none is held
 pub needs_empty : (state : State) (more : ℕ) → NeedsNoChunk state more
     → ((fragment : OpenFragment) → state ≡ Writing fragment → fragment.at + more ≤ vec_len fragment.held.body.payload → ⊥) → is_empty state ≡ true
-needs_empty (Idle next_id) more needs none = absurd needs
+needs_empty (Idle next_position) more needs none = absurd needs
 needs_empty (Between chunk) more needs none = absurd needs
 needs_empty (Writing fragment) more needs none = absurd (none fragment refl needs)
-needs_empty (Dropping next_id) more needs none = refl
-needs_empty (Stalled next_id) more needs none = refl
+needs_empty (Dropping next_position) more needs none = refl
+needs_empty (Stalled next_position) more needs none = refl

@@ -73,14 +73,14 @@ inside_more site packet older view pending fragment next bytes put at_is i = rec
   begun = held_same view.begun i.completed fragment.held.chunk next.held.chunk i.draft put.same.chunk i.begun;
   drafted = drafted_same i.draft fragment.count next.count fragment.continues next.continues i.done put.same.count put.same.continues i.drafted;
   shown = i.shown;
-  id = put.same.id ∙ i.id;
+  position = put.same.position ∙ i.position;
   sized = ap (λ (n : ℕ). (spot site.setup n).payload_size) put.same.chunk ∙ i.sized;
   whole = put.same.len ∙ i.whole;
   written = written_moved fragment.start next.start (fragment.at + length bytes) next.at fragment.count next.count i.done (i.now ++ bytes)
       put.payload put.same.start at_is put.same.count
       (written_more fragment.held.body.payload.items fragment.start fragment.at fragment.count i.done i.now bytes i.written);
   few = i.few;
-  room = subst (λ (n : ℕ). length pending.unsent + holes_outside n pending.holes ≤ 16) (sym put.same.id) i.room;
+  room = subst (λ (n : ℕ). length pending.unsent + holes_outside n pending.holes ≤ 16) (sym put.same.position) i.room;
   writing = subst (λ (b : Bool). IsWriting site.size (with_more bytes packet) older i.pages b i.done (i.now ++ bytes) pending.unsent (reverse pending.holes) [])
       (sym put.same.continues)
       (writing_more site.size packet older i.pages fragment.continues i.done i.now bytes pending.unsent (reverse pending.holes) [] i.writing);
@@ -93,26 +93,26 @@ ids_put : (first : Bool) (at count further room : ℕ) → 4 ≤ at → count + 
 ids_put true at count further room low h = omega (arith, low, h)
 ids_put false at count further room low h = omega (arith, h)
 
-ids_run : (first : Bool) (at further last id : ℕ) → 281 ≤ at → further + cond first (at - 4) 277 ≤ (last - id) * 277
-    → further + 0 ≤ (last - (id + 1)) * 277
-ids_run true at further last id low h = omega (arith, low, h)
-ids_run false at further last id low h = omega (arith, h)
+ids_run : (first : Bool) (at further last position : ℕ) → 281 ≤ at → further + cond first (at - 4) 277 ≤ (last - position) * 277
+    → further + 0 ≤ (last - (position + 1)) * 277
+ids_run true at further last position low h = omega (arith, low, h)
+ids_run false at further last position low h = omega (arith, h)
 
 pub ids_behind : (fragment next : OpenFragment) (at : ℕ) (bytes : List ℕ) (count further : ℕ) → IsPutInto fragment next at bytes → next.at ≡ fragment.at + count
     → HasIds fragment (count + further) → HasIds next further
 ids_behind fragment next at bytes count further put at_is h =
-    subst (λ (n : ℕ). further + cond (next.start == 0) (n - 4) 277 ≤ (4294967294 - next.held.id) * 277) (sym at_is)
-    (subst (λ (n : ℕ). further + cond (n == 0) (fragment.at + count - 4) 277 ≤ (4294967294 - next.held.id) * 277) (sym put.same.start)
-    (subst (λ (n : ℕ). further + cond (fragment.start == 0) (fragment.at + count - 4) 277 ≤ (4294967294 - n) * 277) (sym put.same.id)
-    (ids_put (fragment.start == 0) fragment.at count further ((4294967294 - fragment.held.id) * 277) (omega (arith, fragment.behind)) h)))
+    subst (λ (n : ℕ). further + cond (next.start == 0) (n - 4) 277 ≤ (4294967294 - next.held.position) * 277) (sym at_is)
+    (subst (λ (n : ℕ). further + cond (n == 0) (fragment.at + count - 4) 277 ≤ (4294967294 - next.held.position) * 277) (sym put.same.start)
+    (subst (λ (n : ℕ). further + cond (fragment.start == 0) (fragment.at + count - 4) 277 ≤ (4294967294 - n) * 277) (sym put.same.position)
+    (ids_put (fragment.start == 0) fragment.at count further ((4294967294 - fragment.held.position) * 277) (omega (arith, fragment.behind)) h)))
 
-pub ids_next : (fragment next : OpenFragment) (further : ℕ) → next.start ≡ 0 → next.at ≡ 4 → next.held.id ≡ fragment.held.id + 1 → 281 ≤ fragment.at
+pub ids_next : (fragment next : OpenFragment) (further : ℕ) → next.start ≡ 0 → next.at ≡ 4 → next.held.position ≡ fragment.held.position + 1 → 281 ≤ fragment.at
     → HasIds fragment further → HasIds next further
-ids_next fragment next further start_is at_is id_is low h =
-    subst (λ (n : ℕ). further + cond (next.start == 0) (n - 4) 277 ≤ (4294967294 - next.held.id) * 277) (sym at_is)
-    (subst (λ (n : ℕ). further + cond (n == 0) (4 - 4) 277 ≤ (4294967294 - next.held.id) * 277) (sym start_is)
-    (subst (λ (n : ℕ). further + 0 ≤ (4294967294 - n) * 277) (sym id_is)
-    (ids_run (fragment.start == 0) fragment.at further 4294967294 fragment.held.id low h)))
+ids_next fragment next further start_is at_is position_is low h =
+    subst (λ (n : ℕ). further + cond (next.start == 0) (n - 4) 277 ≤ (4294967294 - next.held.position) * 277) (sym at_is)
+    (subst (λ (n : ℕ). further + cond (n == 0) (4 - 4) 277 ≤ (4294967294 - next.held.position) * 277) (sym start_is)
+    (subst (λ (n : ℕ). further + 0 ≤ (4294967294 - n) * 277) (sym position_is)
+    (ids_run (fragment.start == 0) fragment.at further 4294967294 fragment.held.position low h)))
 
 pub ids_less : (fragment : OpenFragment) (many few : ℕ) → few ≤ many → HasIds fragment many → HasIds fragment few
 ids_less fragment many few less h = omega (arith, less, h)
@@ -213,7 +213,7 @@ puts_run site old mid new before between after fragment next later piece rest so
   calls = runs.calls ∙ so_far.calls;
   holes = ap length runs.holes ∙ so_far.holes;
   keeps = λ packet older i. runs.full full (with_more so_far.put packet) older (so_far.keeps packet older i);
-  ids = λ further h. ids_next next later (length rest + further) runs.start runs.at runs.id (omega (arith, full, least)) (so_far.ids further h);
+  ids = λ further h. ids_next next later (length rest + further) runs.start runs.at runs.position (omega (arith, full, least)) (so_far.ids further h);
   byte = λ none h. absurd (omega (arith, none, left));
 }
 

@@ -43,12 +43,12 @@ use Rattle.trace_writer.proofs.holding.Publishing.{fits, fits_new, heads_new}
 
 -- Ids
 
-pub next_id : (site : Site) (packet : Packet) (older : List Packet) (view : WriterView) (pending : Pending) (fragment : OpenFragment)
-    → InFragment site packet older view pending fragment [] → fragment.held.id + 1 ≡ length view.begun
-next_id site packet older view pending fragment w =
+pub next_position : (site : Site) (packet : Packet) (older : List Packet) (view : WriterView) (pending : Pending) (fragment : OpenFragment)
+    → InFragment site packet older view pending fragment [] → fragment.held.position + 1 ≡ length view.begun
+next_position site packet older view pending fragment w =
     let entry : BegunChunk = Held fragment.held.chunk w.draft in
     let many : length view.begun ≡ length w.completed + 1 = ap length w.begun ∙ length-append w.completed (entry ∷ []) in
-    omega (arith, many, shows_long site 0 w.completed w.pages w.shown, w.id)
+    omega (arith, many, shows_long site 0 w.completed w.pages w.shown, w.position)
 
 -- it holds one chunk, so it may begin another
 pub few_inside : (site : Site) (packet : Packet) (older : List Packet) (view : WriterView) (pending : Pending) (fragment : OpenFragment)
@@ -61,19 +61,19 @@ few_inside site packet older view pending fragment w =
 
 -- the held chunk's patches and flags as it is completed
 abbrev pub run_content : Site → Pending → List ℕ → ℕ → ℕ → Bool → Content
-run_content site before payload id count continues =
-    completed_chunk site.place id count (flags_value continues true (is_among id (hole_chunks before.holes))) payload
+run_content site before payload position count continues =
+    completed_chunk site.place position count (flags_value continues true (is_among position (hole_chunks before.holes))) payload
     (with_lasts (hole_chunks before.holes) before.unsent) site.buffer
 
 abbrev pub run_completion : ℕ → ℕ → Pending → WriterView → List ℕ → ℕ → ℕ → ℕ → Bool → WriterView
-run_completion place buffer before view payload chunk id count continues =
-    completes view chunk id
-    (completed_chunk place id count (flags_value continues true (is_among id (hole_chunks before.holes))) payload (with_lasts (hole_chunks before.holes) before.unsent) buffer)
+run_completion place buffer before view payload chunk position count continues =
+    completes view chunk position
+    (completed_chunk place position count (flags_value continues true (is_among position (hole_chunks before.holes))) payload (with_lasts (hole_chunks before.holes) before.unsent) buffer)
 
 -- the chunk as it ends is that of the fragment
 pub record Ends (fragment : OpenFragment) (ended : HeldChunk) : Type 0 where
   pub chunk : ended.held.chunk ≡ fragment.held.chunk
-  pub id : ended.held.id ≡ fragment.held.id
+  pub position : ended.held.position ≡ fragment.held.position
   pub sealed : ended.sealed ≡ fragment.start
   pub count : ended.count ≡ fragment.count
   pub continues : ended.continues ≡ fragment.continues
@@ -84,7 +84,7 @@ pub ends_as : (fragment : OpenFragment) (ended : HeldChunk) → ended.held ≡ r
     → ended.sealed ≡ fragment.start → ended.count ≡ fragment.count → ended.continues ≡ fragment.continues → Ends fragment ended
 ends_as fragment ended held bytes sealed count continues = record {
   chunk = ap (λ (h : HeldToken). h.chunk) held;
-  id = ap (λ (h : HeldToken). h.id) held;
+  position = ap (λ (h : HeldToken). h.position) held;
   sealed = sealed;
   count = count;
   continues = continues;
@@ -130,17 +130,17 @@ ended_fits site packet older old one pending fragment ended h e len =
     let long : length ended.held.body.payload.items ≡ vec_len ended.held.body.payload = sym ended.held.body.payload.ok.0 in
     fits site.setup one ended w.draft fragment.continues w.completed h.later (ended.count - 1) fragment.count (vec_len ended.held.body.payload) w.done w.done rest rest
     (h.begun ∙ ap (λ (c : ℕ). w.completed ++ Held c w.draft ∷ h.later) (sym e.chunk))
-    (e.id ∙ w.id ∙ sym (shows_long site 0 w.completed w.pages w.shown))
+    (e.position ∙ w.position ∙ sym (shows_long site 0 w.completed w.pages w.shown))
     (len ∙ w.whole ∙ sym w.sized ∙ ap (λ (c : ℕ). (spot site.setup c).payload_size) (sym e.chunk))
     payload (omega (arith, e.count, w.written.count_is)) (omega (arith, long, ap length payload, length-append (frames w.done) rest))
     payload (e.sealed ∙ w.written.start_is) w.drafted
 
 pub ended_head : (site : Site) (packet : Packet) (older : List Packet) (old one : WriterView) (pending : Pending) (fragment : OpenFragment) (ended : HeldChunk)
-    → IsHeldStill site packet older old pending fragment one → Ends fragment ended → head_at one ended.held.id ≡ held_head ended.count ended.continues
+    → IsHeldStill site packet older old pending fragment one → Ends fragment ended → head_at one ended.held.position ≡ held_head ended.count ended.continues
 ended_head site packet older old one pending fragment ended h e =
     let w : InFragment site packet older old pending fragment [] = h.inside in
-    ap (λ (d : Draft). d.head) (draft_here one w.completed h.later fragment.held.chunk ended.held.id w.draft h.begun
-    (e.id ∙ w.id ∙ sym (shows_long site 0 w.completed w.pages w.shown)))
+    ap (λ (d : Draft). d.head) (draft_here one w.completed h.later fragment.held.chunk ended.held.position w.draft h.begun
+    (e.position ∙ w.position ∙ sym (shows_long site 0 w.completed w.pages w.shown)))
     ∙ w.drafted.head
     ∙ ap (λ (n : ℕ). held_head n fragment.continues) (sym e.count)
     ∙ ap (λ (c : Bool). held_head ended.count c) (sym e.continues)
@@ -148,29 +148,29 @@ ended_head site packet older old one pending fragment ended h e =
 -- the held chunk is completed
 pub completed_before : (place : ℕ) (site : Site) (one two : WriterView) (before : Pending) (fragment : OpenFragment) (ended : HeldChunk)
     (completed later : List BegunChunk) (draft : Draft) → Ends fragment ended → place ≡ site.place
-    → two ≡ run_completion place site.buffer before one ended.held.body.payload.items ended.held.chunk ended.held.id ended.count ended.continues
-    → one.begun ≡ completed ++ Held fragment.held.chunk draft ∷ later → fragment.held.id ≡ length completed
-    → two.begun ≡ completed ++ Completed fragment.held.chunk (run_content site before ended.held.body.payload.items fragment.held.id fragment.count fragment.continues) ∷ later
-completed_before place site one two before fragment ended completed later draft e place_is view begun id =
+    → two ≡ run_completion place site.buffer before one ended.held.body.payload.items ended.held.chunk ended.held.position ended.count ended.continues
+    → one.begun ≡ completed ++ Held fragment.held.chunk draft ∷ later → fragment.held.position ≡ length completed
+    → two.begun ≡ completed ++ Completed fragment.held.chunk (run_content site before ended.held.body.payload.items fragment.held.position fragment.count fragment.continues) ∷ later
+completed_before place site one two before fragment ended completed later draft e place_is view begun position =
     let payload : List ℕ = ended.held.body.payload.items in
     let buffer : ℕ = site.buffer in
-    let content : Content = run_content site before payload fragment.held.id fragment.count fragment.continues in
-    let is : two ≡ run_completion site.place buffer before one payload fragment.held.chunk fragment.held.id fragment.count fragment.continues =
+    let content : Content = run_content site before payload fragment.held.position fragment.count fragment.continues in
+    let is : two ≡ run_completion site.place buffer before one payload fragment.held.chunk fragment.held.position fragment.count fragment.continues =
     view
-    ∙ ap (λ (p : ℕ). run_completion p buffer before one payload ended.held.chunk ended.held.id ended.count ended.continues) place_is
-    ∙ ap (λ (c : ℕ). run_completion site.place buffer before one payload c ended.held.id ended.count ended.continues) e.chunk
-    ∙ ap (λ (i : ℕ). run_completion site.place buffer before one payload fragment.held.chunk i ended.count ended.continues) e.id
-    ∙ ap (λ (n : ℕ). run_completion site.place buffer before one payload fragment.held.chunk fragment.held.id n ended.continues) e.count
-    ∙ ap (λ (c : Bool). run_completion site.place buffer before one payload fragment.held.chunk fragment.held.id fragment.count c) e.continues in
-    completed_here one two completed later fragment.held.chunk fragment.held.id draft content begun id is
+    ∙ ap (λ (p : ℕ). run_completion p buffer before one payload ended.held.chunk ended.held.position ended.count ended.continues) place_is
+    ∙ ap (λ (c : ℕ). run_completion site.place buffer before one payload c ended.held.position ended.count ended.continues) e.chunk
+    ∙ ap (λ (i : ℕ). run_completion site.place buffer before one payload fragment.held.chunk i ended.count ended.continues) e.position
+    ∙ ap (λ (n : ℕ). run_completion site.place buffer before one payload fragment.held.chunk fragment.held.position n ended.continues) e.count
+    ∙ ap (λ (c : Bool). run_completion site.place buffer before one payload fragment.held.chunk fragment.held.position fragment.count c) e.continues in
+    completed_here one two completed later fragment.held.chunk fragment.held.position draft content begun position is
 
 -- The held chunk is completed, and this chunk is begun behind it.
 pub record BeginsNext (site : Site) (before : Pending) (fragment : OpenFragment) (payload : List ℕ) (chunk : ℕ) (old two : WriterView) : Type 0 where
   -- what stands in it
   pub words : List ℕ
   pub begun : (completed : List BegunChunk) (draft : Draft) → old.begun ≡ completed ++ Held fragment.held.chunk draft ∷ []
-      → fragment.held.id ≡ length completed
-      → two.begun ≡ (completed ++ Completed fragment.held.chunk (run_content site before payload fragment.held.id fragment.count fragment.continues) ∷ []) ++ Held chunk (fresh words) ∷ []
+      → fragment.held.position ≡ length completed
+      → two.begun ≡ (completed ++ Completed fragment.held.chunk (run_content site before payload fragment.held.position fragment.count fragment.continues) ∷ []) ++ Held chunk (fresh words) ∷ []
   pub calls : two.calls ≡ old.calls
   pub sized : (spot site.setup chunk).payload_size ≡ site.size
 
@@ -186,16 +186,16 @@ claimed_size setup place chunk route old new r wins =
 -- a writer that drops claims first
 pub next_first : (setup : Setup) (place now_place chunk : ℕ) (route : Route) (old one two : WriterView) (before : Pending) (fragment : OpenFragment) (ended : HeldChunk)
     → IsRoute setup place route → Wins route chunk old one → Ends fragment ended → now_place ≡ place
-    → two ≡ run_completion now_place route.spec.buffer before one ended.held.body.payload.items ended.held.chunk ended.held.id ended.count ended.continues
+    → two ≡ run_completion now_place route.spec.buffer before one ended.held.body.payload.items ended.held.chunk ended.held.position ended.count ended.continues
     → BeginsNext (site_of setup place route) before fragment ended.held.body.payload.items chunk old two
 next_first setup place now_place chunk route old one two before fragment ended r wins e place_is view =
     let site : Site = site_of setup place route in
-    let content : Content = run_content site before ended.held.body.payload.items fragment.held.id fragment.count fragment.continues in
+    let content : Content = run_content site before ended.held.body.payload.items fragment.held.position fragment.count fragment.continues in
     record {
       words = wins.words;
-      begun = λ completed draft begun id.
+      begun = λ completed draft begun position.
           completed_before now_place site one two before fragment ended completed (Held chunk (fresh wins.words) ∷ []) draft e place_is view
-          (claimed_behind route chunk old one completed (Held fragment.held.chunk draft) wins begun) id
+          (claimed_behind route chunk old one completed (Held fragment.held.chunk draft) wins begun) position
           ∙ sym (append_assoc completed (Completed fragment.held.chunk content ∷ []) (Held chunk (fresh wins.words) ∷ []));
       calls = ap (λ (v : WriterView). v.calls) view ∙ wins.calls;
       sized = claimed_size setup place chunk route old one r wins;
@@ -204,14 +204,14 @@ next_first setup place now_place chunk route old one two before fragment ended r
 -- one that stalls completes first
 pub next_last : (setup : Setup) (place chunk : ℕ) (route : Route) (old one two : WriterView) (before : Pending) (fragment : OpenFragment) (ended : HeldChunk)
     → IsRoute setup place route → Wins route chunk one two → Ends fragment ended
-    → one ≡ run_completion place route.spec.buffer before old ended.held.body.payload.items ended.held.chunk ended.held.id ended.count ended.continues
+    → one ≡ run_completion place route.spec.buffer before old ended.held.body.payload.items ended.held.chunk ended.held.position ended.count ended.continues
     → BeginsNext (site_of setup place route) before fragment ended.held.body.payload.items chunk old two
 next_last setup place chunk route old one two before fragment ended r wins e view =
     let site : Site = site_of setup place route in record {
       words = wins.words;
-      begun = λ completed draft begun id.
+      begun = λ completed draft begun position.
           wins.begun
-          ∙ ap (λ (xs : List BegunChunk). xs ++ Held chunk (fresh wins.words) ∷ []) (completed_before place site old one before fragment ended completed [] draft e refl view begun id);
+          ∙ ap (λ (xs : List BegunChunk). xs ++ Held chunk (fresh wins.words) ∷ []) (completed_before place site old one before fragment ended completed [] draft e refl view begun position);
       calls = wins.calls ∙ ap (λ (v : WriterView). v.calls) view;
       sized = claimed_size setup place chunk route one two r wins;
     }
@@ -225,7 +225,7 @@ pub record Starts (site : Site) (fragment : OpenFragment) (token : HeldToken) (s
   pub at : started.at ≡ 0
   pub count : started.count ≡ 0
   pub continues : started.continues ≡ true
-  pub id : token.id ≡ fragment.held.id + 1
+  pub position : token.position ≡ fragment.held.position + 1
   pub whole : vec_len token.body.payload ≡ (spot site.setup token.chunk).payload_size
 
 -- The packet in the next chunk
@@ -237,11 +237,11 @@ pub record GoesOnIn (site : Site) (old new : WriterView) (before after : Pending
   pub payload : List ℕ
   pub payload_is : payload ≡ with_bytes fragment.held.body.payload.items fragment.start (redundant (fragment.at - fragment.start - 4))
   pub draft : Draft
-  pub begun : (completed : List BegunChunk) (last : Draft) → old.begun ≡ completed ++ Held fragment.held.chunk last ∷ [] → fragment.held.id ≡ length completed
-      → new.begun ≡ (completed ++ Completed fragment.held.chunk (run_content site before payload fragment.held.id fragment.count fragment.continues) ∷ [])
+  pub begun : (completed : List BegunChunk) (last : Draft) → old.begun ≡ completed ++ Held fragment.held.chunk last ∷ [] → fragment.held.position ≡ length completed
+      → new.begun ≡ (completed ++ Completed fragment.held.chunk (run_content site before payload fragment.held.position fragment.count fragment.continues) ∷ [])
       ++ Held next.held.chunk draft ∷ []
   pub drafted : IsDrafted draft next.count next.continues []
-  pub id : next.held.id ≡ fragment.held.id + 1
+  pub position : next.held.position ≡ fragment.held.position + 1
   pub start : next.start ≡ 0
   pub at : next.at ≡ 4
   pub count : next.count ≡ 1
@@ -253,7 +253,7 @@ pub record GoesOnIn (site : Site) (old new : WriterView) (before after : Pending
 abbrev pub page_run : (site : Site) (packet : Packet) (older : List Packet) (old : WriterView) (before : Pending) (fragment : OpenFragment)
     → InFragment site packet older old before fragment [] → Page
 page_run site packet older old before fragment w =
-    run_page fragment.continues (is_among fragment.held.id (hole_chunks before.holes)) (w.done ++ w.now ∷ []) w.written.rest
+    run_page fragment.continues (is_among fragment.held.position (hole_chunks before.holes)) (w.done ++ w.now ∷ []) w.written.rest
     (with_lasts (hole_chunks before.holes) before.unsent)
 
 pub page_full : (site : Site) (packet : Packet) (older : List Packet) (old : WriterView) (before : Pending) (fragment : OpenFragment)
@@ -262,21 +262,21 @@ page_full site packet older old before fragment w =
     let items : List ℕ = fragment.held.body.payload.items in
     let long : length items ≡ site.size = let all = fragment.held.body.payload.ok.0 in omega (arith, w.whole, all) in
     let few : fragment.count ≤ 1023 = fragment.few in
-    full_run items fragment.start fragment.at fragment.count site.size w.done w.now fragment.continues (is_among fragment.held.id (hole_chunks before.holes))
+    full_run items fragment.start fragment.at fragment.count site.size w.done w.now fragment.continues (is_among fragment.held.position (hole_chunks before.holes))
     (with_lasts (hole_chunks before.holes) before.unsent) w.written long few
 
 pub page_shown : (site : Site) (packet : Packet) (older : List Packet) (old : WriterView) (before : Pending) (fragment : OpenFragment) (payload : List ℕ)
     (w : InFragment site packet older old before fragment [])
     → payload ≡ with_bytes fragment.held.body.payload.items fragment.start (redundant (fragment.at - fragment.start - 4))
-    → ShowsPages site 0 (w.completed ++ Completed fragment.held.chunk (run_content site before payload fragment.held.id fragment.count fragment.continues) ∷ [])
+    → ShowsPages site 0 (w.completed ++ Completed fragment.held.chunk (run_content site before payload fragment.held.position fragment.count fragment.continues) ∷ [])
     (w.pages ++ page_run site packet older old before fragment w ∷ [])
 page_shown site packet older old before fragment payload w payload_is =
     let page : Page = page_run site packet older old before fragment w in
     let laid_is : payload ≡ laid false (w.done ++ w.now ∷ []) w.written.rest =
     payload_is ∙ written_ended fragment.held.body.payload.items fragment.start fragment.at fragment.count w.done w.now w.written in
-    shows_one site 0 fragment.held.id fragment.held.chunk w.completed w.pages
-    (run_content site before payload fragment.held.id fragment.count fragment.continues) page w.shown (omega (arith, w.id))
-    (content_is site fragment.held.id fragment.count payload page (w.written.count_is ∙ sym (length-append w.done (w.now ∷ []))) laid_is)
+    shows_one site 0 fragment.held.position fragment.held.chunk w.completed w.pages
+    (run_content site before payload fragment.held.position fragment.count fragment.continues) page w.shown (omega (arith, w.position))
+    (content_is site fragment.held.position fragment.count payload page (w.written.count_is ∙ sym (length-append w.done (w.now ∷ []))) laid_is)
 
 in_next : (site : Site) (packet : Packet) (older : List Packet) (old new : WriterView) (before after : Pending) (fragment next : OpenFragment) (coming : List ℕ)
     (w : InFragment site packet older old before fragment []) → 284 ≤ site.size
@@ -287,11 +287,11 @@ in_next : (site : Site) (packet : Packet) (older : List Packet) (old new : Write
 in_next site packet older old new before after fragment next coming w least left writing e =
     let page : Page = page_run site packet older old before fragment w in
     let pages : List Page = w.pages ++ page ∷ [] in
-    let content : Content = run_content site before e.payload fragment.held.id fragment.count fragment.continues in
+    let content : Content = run_content site before e.payload fragment.held.position fragment.count fragment.continues in
     let runs : IsWriting site.size packet older pages true [] [] [] (reverse before.holes) coming =
     writing_run_on site.size packet older w.pages page w.done w.now before.unsent (reverse before.holes) coming refl refl (page_full site packet older old before fragment w)
     (sym (lasts_reverse before.holes before.unsent))
-    (ap (λ (i : ℕ). is_among i (hole_chunks before.holes)) w.id ∙ sym (among_reverse (length w.pages) before.holes))
+    (ap (λ (i : ℕ). is_among i (hole_chunks before.holes)) w.position ∙ sym (among_reverse (length w.pages) before.holes))
     left writing in
     let next_long : 4 ≤ length next.held.body.payload.items = let all = next.held.body.payload.ok.0 in omega (arith, e.whole, all, least) in
     let same_holes : length after.holes ≡ length before.holes = ap (λ (p : Pending). length p.holes) e.none_left in
@@ -302,15 +302,15 @@ in_next site packet older old new before after fragment next coming w least left
       now = [];
       completed = w.completed ++ Completed fragment.held.chunk content ∷ [];
       draft = e.draft;
-      begun = e.begun w.completed w.draft w.begun (w.id ∙ sym (shows_long site 0 w.completed w.pages w.shown));
+      begun = e.begun w.completed w.draft w.begun (w.position ∙ sym (shows_long site 0 w.completed w.pages w.shown));
       drafted = e.drafted;
       shown = page_shown site packet older old before fragment e.payload w e.payload_is;
-      id = e.id ∙ ap (λ (n : ℕ). n + 1) w.id ∙ sym (length-append w.pages (page ∷ []));
+      position = e.position ∙ ap (λ (n : ℕ). n + 1) w.position ∙ sym (length-append w.pages (page ∷ []));
       sized = e.sized;
       whole = e.whole;
       written = written_moved 0 next.start 4 next.at 1 next.count [] [] refl e.start e.at e.count (written_first next.held.body.payload.items next_long);
       few = omega (arith, w.few, same_holes);
-      room = omega (arith, w.few, same_holes, none, outside_most next.held.id after.holes);
+      room = omega (arith, w.few, same_holes, none, outside_most next.held.position after.holes);
       writing = subst (λ (p : Pending). IsWriting site.size packet older pages next.continues [] [] p.unsent (reverse p.holes) coming) (sym e.none_left)
           (subst (λ (c : Bool). IsWriting site.size packet older pages c [] [] [] (reverse before.holes) coming) (sym e.continues) runs);
     }
@@ -332,7 +332,7 @@ runs_on site old new before after fragment next least filled e = record {
   start = e.start;
   at = e.at;
   continues = e.continues;
-  id = e.id;
+  position = e.position;
   size = e.whole;
   full = λ ends packet older w.
       let none : left_behind site.size (current_piece w.pages w.done w.now) ≡ 0 = left_is site packet older old before fragment w ∙ omega (arith, ends) in
@@ -359,32 +359,32 @@ pub record StartsIn (started : HeldChunk) (next : OpenFragment) : Type 0 where
 pub run_begun : (site : Site) (packet : Packet) (older : List Packet) (old two : WriterView) (before : Pending) (fragment : OpenFragment)
     (payload : List ℕ) (started : HeldChunk) (token : HeldToken) (w : InFragment site packet older old before fragment [])
     (begins : BeginsNext site before fragment payload token.chunk old two) → Starts site fragment token started
-    → (two.begun ≡ (w.completed ++ Completed fragment.held.chunk (run_content site before payload fragment.held.id fragment.count fragment.continues) ∷ [])
+    → (two.begun ≡ (w.completed ++ Completed fragment.held.chunk (run_content site before payload fragment.held.position fragment.count fragment.continues) ∷ [])
     ++ Held started.held.chunk (fresh begins.words) ∷ [])
-    × (started.held.id ≡ length (w.completed ++ Completed fragment.held.chunk (run_content site before payload fragment.held.id fragment.count fragment.continues) ∷ []))
+    × (started.held.position ≡ length (w.completed ++ Completed fragment.held.chunk (run_content site before payload fragment.held.position fragment.count fragment.continues) ∷ []))
 run_begun site packet older old two before fragment payload started token w begins s =
-    let id : fragment.held.id ≡ length w.completed = w.id ∙ sym (shows_long site 0 w.completed w.pages w.shown) in
-    let entry : BegunChunk = Completed fragment.held.chunk (run_content site before payload fragment.held.id fragment.count fragment.continues) in (
-      begins.begun w.completed w.draft w.begun id ∙ ap (λ (t : HeldToken). (w.completed ++ entry ∷ []) ++ Held t.chunk (fresh begins.words) ∷ []) (sym s.held),
-      ap (λ (t : HeldToken). t.id) s.held ∙ s.id ∙ ap (λ (n : ℕ). n + 1) id ∙ sym (length-append w.completed (entry ∷ [])),
+    let position : fragment.held.position ≡ length w.completed = w.position ∙ sym (shows_long site 0 w.completed w.pages w.shown) in
+    let entry : BegunChunk = Completed fragment.held.chunk (run_content site before payload fragment.held.position fragment.count fragment.continues) in (
+      begins.begun w.completed w.draft w.begun position ∙ ap (λ (t : HeldToken). (w.completed ++ entry ∷ []) ++ Held t.chunk (fresh begins.words) ∷ []) (sym s.held),
+      ap (λ (t : HeldToken). t.position) s.held ∙ s.position ∙ ap (λ (n : ℕ). n + 1) position ∙ sym (length-append w.completed (entry ∷ [])),
     )
 
 pub run_fits : (site : Site) (packet : Packet) (older : List Packet) (old two : WriterView) (before : Pending) (fragment : OpenFragment)
     (payload : List ℕ) (started : HeldChunk) (token : HeldToken) → InFragment site packet older old before fragment []
     → BeginsNext site before fragment payload token.chunk old two → Starts site fragment token started → IsFit site.setup two started started.count started.at
 run_fits site packet older old two before fragment payload started token w begins s =
-    let entry : BegunChunk = Completed fragment.held.chunk (run_content site before payload fragment.held.id fragment.count fragment.continues) in
+    let entry : BegunChunk = Completed fragment.held.chunk (run_content site before payload fragment.held.position fragment.count fragment.continues) in
     let there = run_begun site packet older old two before fragment payload started token w begins s in
     fits_new site.setup two started begins.words (w.completed ++ entry ∷ []) [] there.0 there.1
     (ap (λ (t : HeldToken). vec_len t.body.payload) s.held ∙ s.whole ∙ ap (λ (t : HeldToken). (spot site.setup t.chunk).payload_size) (sym s.held)) s.sealed s.at s.count
 
 pub run_follows : (site : Site) (packet : Packet) (older : List Packet) (old two : WriterView) (before : Pending) (fragment : OpenFragment)
     (payload : List ℕ) (started : HeldChunk) (token : HeldToken) (head : Head) → InFragment site packet older old before fragment []
-    → BeginsNext site before fragment payload token.chunk old two → Starts site fragment token started → MayFollow (head_at two started.held.id) head
+    → BeginsNext site before fragment payload token.chunk old two → Starts site fragment token started → MayFollow (head_at two started.held.position) head
 run_follows site packet older old two before fragment payload started token head w begins s =
-    let entry : BegunChunk = Completed fragment.held.chunk (run_content site before payload fragment.held.id fragment.count fragment.continues) in
+    let entry : BegunChunk = Completed fragment.held.chunk (run_content site before payload fragment.held.position fragment.count fragment.continues) in
     let there = run_begun site packet older old two before fragment payload started token w begins s in
-    heads_new two started.held.chunk started.held.id begins.words (w.completed ++ entry ∷ []) [] head there.0 there.1
+    heads_new two started.held.chunk started.held.position begins.words (w.completed ++ entry ∷ []) [] head there.0 there.1
 
 pub goes_on_in : (site : Site) (old two new : WriterView) (before after : Pending) (fragment : OpenFragment)
     (ended started : HeldChunk) (token : HeldToken) (next : OpenFragment)
@@ -397,18 +397,18 @@ goes_on_in site old two new before after fragment ended started token next begin
     let payload : List ℕ = ended.held.body.payload.items in
     let held : next.held ≡ token = n.held ∙ s.held in
     let chunk_is : next.held.chunk ≡ token.chunk = ap (λ (t : HeldToken). t.chunk) held in
-    let drafted : new ≡ redrafts two token.chunk token.id counts.draft = counts.view ∙ ap (λ (t : HeldToken). redrafts two t.chunk t.id counts.draft) s.held in
+    let drafted : new ≡ redrafts two token.chunk token.position counts.draft = counts.view ∙ ap (λ (t : HeldToken). redrafts two t.chunk t.position counts.draft) s.held in
     record {
       calls = ap (λ (v : WriterView). v.calls) counts.view ∙ begins.calls;
       none_left = after_is;
       payload = payload;
       payload_is = e.payload;
       draft = counts.draft;
-      begun = λ completed last begun id.
-          let content : Content = run_content site before payload fragment.held.id fragment.count fragment.continues in
+      begun = λ completed last begun position.
+          let content : Content = run_content site before payload fragment.held.position fragment.count fragment.continues in
           let entry : BegunChunk = Completed fragment.held.chunk content in
-          let last_id : token.id ≡ length (completed ++ entry ∷ []) = s.id ∙ ap (λ (m : ℕ). m + 1) id ∙ sym (length-append completed (entry ∷ [])) in
-          redrafted_here two new (completed ++ entry ∷ []) [] token.chunk token.id (fresh begins.words) counts.draft (begins.begun completed last begun id) last_id drafted
+          let last_is : token.position ≡ length (completed ++ entry ∷ []) = s.position ∙ ap (λ (m : ℕ). m + 1) position ∙ sym (length-append completed (entry ∷ [])) in
+          redrafted_here two new (completed ++ entry ∷ []) [] token.chunk token.position (fresh begins.words) counts.draft (begins.begun completed last begun position) last_is drafted
           ∙ ap (λ (c : ℕ). (completed ++ entry ∷ []) ++ Held c counts.draft ∷ []) (sym chunk_is);
       drafted = record {
         head = counts.head
@@ -417,7 +417,7 @@ goes_on_in site old two new before after fragment ended started token next begin
         bytes = λ j below. absurd (omega (arith, below));
         sealed = let most = counts.sealed in omega (arith, most, s.at);
       };
-      id = ap (λ (t : HeldToken). t.id) held ∙ s.id;
+      position = ap (λ (t : HeldToken). t.position) held ∙ s.position;
       start = n.start ∙ s.at;
       at = n.at ∙ ap (λ (m : ℕ). m + 4) s.at;
       count = n.count ∙ ap (λ (m : ℕ). m + 1) s.count;
@@ -440,7 +440,7 @@ inside_seen site packet older view other pending fragment coming same w = record
   begun = same ∙ w.begun;
   drafted = w.drafted;
   shown = w.shown;
-  id = w.id;
+  position = w.position;
   sized = w.sized;
   whole = w.whole;
   written = w.written;
@@ -480,8 +480,8 @@ pub stopped_holds_none : (site : Site) (packet : Packet) (older : List Packet) (
 stopped_holds_none site packet older old new before after fragment w stops =
     stopped_as site.policy site (with_open packet) older new after (stops.length_next packet older w)
 
-pub next_id_after : (site : Site) (packet : Packet) (older : List Packet) (old mid new : WriterView) (pending : Pending) (fragment : OpenFragment)
+pub next_position_after : (site : Site) (packet : Packet) (older : List Packet) (old mid new : WriterView) (pending : Pending) (fragment : OpenFragment)
     → InFragment site packet older old pending fragment [] → FindsNone old mid → length new.begun ≡ length mid.begun
-    → fragment.held.id + 1 ≡ length new.begun
-next_id_after site packet older old mid new pending fragment w none same =
-    next_id site packet older old pending fragment w ∙ sym (same ∙ ap length none.begun)
+    → fragment.held.position + 1 ≡ length new.begun
+next_position_after site packet older old mid new pending fragment w none same =
+    next_position site packet older old pending fragment w ∙ sym (same ∙ ap length none.begun)

@@ -4,7 +4,7 @@ use Rattle.std.proofs.lemmas.Bool.{ne_eqb}
 use Rattle.std.proofs.lemmas.Bool.Decides.{nat_tests}
 use Rattle.std.proofs.lemmas.List.{take-append-drop, length-take, length-append}
 use Rattle.trace_base.specs.declared.limits.TheConstants.{MAX_FRAGMENTS, MAX_OPEN_HOLES}
-use Rattle.chunk_plain.specs.declared.tokens.TheConstants.{ID_LIMIT}
+use Rattle.chunk_plain.specs.declared.tokens.TheConstants.{POSITION_LIMIT}
 use Rattle.trace_writer.specs.declared.ids.TheConstants.{PACKET_IDS}
 use Rattle.trace_model.specs.Calls.{Call}
 use Rattle.trace_model.specs.Images.{Patch}
@@ -74,16 +74,16 @@ started_written payload at count done room filled =
 pub started_inside : (site : Site) (account : Account) (packet : Packet) (view new : WriterView) (pending : Pending) (chunk : HeldChunk) (fragment : OpenFragment)
     (pages : List Page) (completed : List BegunChunk) (draft : Draft) (done : List (List ℕ)) (counted : WriterView)
     → chunk.at + 12 ≤ vec_len chunk.held.body.payload → IsFilled chunk.held.body.payload.items chunk.at chunk.count done
-    → view.begun ≡ completed ++ Held chunk.held.chunk draft ∷ [] → ShowsPages site 0 completed pages → chunk.held.id ≡ length pages
+    → view.begun ≡ completed ++ Held chunk.held.chunk draft ∷ [] → ShowsPages site 0 completed pages → chunk.held.position ≡ length pages
     → (spot site.setup chunk.held.chunk).payload_size ≡ site.size → vec_len chunk.held.body.payload ≡ site.size
     → pending.holes ≡ [] → length pending.unsent ≤ MAX_OPEN_HOLES
     → IsWriting site.size packet account.packets pages chunk.continues done [] pending.unsent [] []
     → IsStarted chunk fragment → CountsNext chunk view counted → new.begun ≡ counted.begun
     → InFragment site packet account.packets new pending fragment []
-started_inside site account packet view new pending chunk fragment pages completed draft done counted room filled begun shown id sized whole holes few writing started counts same =
+started_inside site account packet view new pending chunk fragment pages completed draft done counted room filled begun shown position sized whole holes few writing started counts same =
     let long : length completed ≡ length pages = shows_long site 0 completed pages shown in
     let here : new.begun ≡ completed ++ Held chunk.held.chunk counts.draft ∷ [] =
-    same ∙ redrafted_here view counted completed [] chunk.held.chunk chunk.held.id draft counts.draft begun (id ∙ sym long) counts.view in
+    same ∙ redrafted_here view counted completed [] chunk.held.chunk chunk.held.position draft counts.draft begun (position ∙ sym long) counts.view in
     let payload_long : length chunk.held.body.payload.items ≡ vec_len chunk.held.body.payload = sym chunk.held.body.payload.ok.0 in
     let written : IsWritten chunk.held.body.payload.items chunk.at (chunk.at + 4) (chunk.count + 1) done [] =
     started_written chunk.held.body.payload.items chunk.at chunk.count done (omega (arith, room, payload_long)) filled in
@@ -103,7 +103,7 @@ started_inside site account packet view new pending chunk fragment pages complet
         sealed = let most = counts.sealed in omega (arith, most, filled.at_is);
       };
       shown = shown;
-      id = ap (λ (h : HeldToken). h.id) started.held ∙ id;
+      position = ap (λ (h : HeldToken). h.position) started.held ∙ position;
       sized = ap (λ (h : HeldToken). (spot site.setup h.chunk).payload_size) started.held ∙ sized;
       whole = ap (λ (h : HeldToken). vec_len h.body.payload) started.held ∙ whole;
       written = subst (λ (h : HeldToken). IsWritten h.body.payload.items fragment.start fragment.at fragment.count done []) (sym started.held)
@@ -111,22 +111,22 @@ started_inside site account packet view new pending chunk fragment pages complet
           (subst (λ (n : ℕ). IsWritten chunk.held.body.payload.items chunk.at n fragment.count done []) (sym started.at)
           (subst (λ (n : ℕ). IsWritten chunk.held.body.payload.items chunk.at (chunk.at + 4) n done []) (sym started.count) written)));
       few = subst (λ (xs : List Hole). length xs ≤ MAX_OPEN_HOLES) (sym holes) (omega arith);
-      room = subst (λ (xs : List Hole). length pending.unsent + holes_outside fragment.held.id xs ≤ MAX_OPEN_HOLES) (sym holes) (omega (arith, few));
+      room = subst (λ (xs : List Hole). length pending.unsent + holes_outside fragment.held.position xs ≤ MAX_OPEN_HOLES) (sym holes) (omega (arith, few));
       writing = subst (λ (b : Bool). IsWriting site.size packet account.packets pages b done [] pending.unsent (reverse pending.holes) []) (sym started.continues)
           (subst (λ (xs : List Hole). IsWriting site.size packet account.packets pages chunk.continues done [] pending.unsent (reverse xs) []) (sym holes) writing);
     }
 
 -- In a new chunk
 
-pub new_roomy : (setup : Setup) (place : ℕ) (route : Route) (account : Account) (view new : WriterView) (pending : Pending) (held : HeldToken) (chunk : HeldChunk) (id : ℕ)
+pub new_roomy : (setup : Setup) (place : ℕ) (route : Route) (account : Account) (view new : WriterView) (pending : Pending) (held : HeldToken) (chunk : HeldChunk) (position : ℕ)
     → IsRoute setup place route → chunk.held ≡ held → chunk.sealed ≡ 0 → chunk.at ≡ 0 → chunk.count ≡ 0 → chunk.continues ≡ false
-    → id ≡ length view.begun → id + PACKET_IDS ≤ ID_LIMIT
-    → Wins route held.chunk view new → IsBegun setup held.chunk id held
+    → position ≡ length view.begun → position + PACKET_IDS ≤ POSITION_LIMIT
+    → Wins route held.chunk view new → IsBegun setup held.chunk position held
     → IsIdle (site_of setup place route) account view pending → IsRoomy (site_of setup place route) account new pending chunk
-new_roomy setup place route account view new pending held chunk id is_route held_is sealed_is at_is count_is continues_is id_is ids claims begun idle =
+new_roomy setup place route account view new pending held chunk position is_route held_is sealed_is at_is count_is continues_is position_is ids claims begun idle =
     let site : Site = site_of setup place route in
     let chunk_is : chunk.held.chunk ≡ held.chunk = ap (λ (h : HeldToken). h.chunk) held_is in
-    let chunk_id : chunk.held.id ≡ id = ap (λ (h : HeldToken). h.id) held_is ∙ begun.id_is in
+    let chunk_id : chunk.held.position ≡ position = ap (λ (h : HeldToken). h.position) held_is ∙ begun.position_is in
     let listed : new.begun ≡ view.begun ++ Held chunk.held.chunk (fresh claims.words) ∷ [] =
     claims.begun ∙ ap (λ (n : ℕ). view.begun ++ Held n (fresh claims.words) ∷ []) (sym chunk_is) in
     let long : length view.begun ≡ length idle.pages = shows_long site 0 view.begun idle.pages idle.shown in
@@ -136,15 +136,15 @@ new_roomy setup place route account view new pending held chunk id is_route held
     let room : chunk.at + 12 ≤ vec_len chunk.held.body.payload = omega (arith, at_is, whole, is_route.least) in
     let filled : IsFilled chunk.held.body.payload.items chunk.at chunk.count [] = record { rest = chunk.held.body.payload.items; payload_is = refl; at_is = at_is; count_is = count_is } in
     record {
-      fit = fits_new setup new chunk claims.words view.begun [] listed (chunk_id ∙ id_is) (whole ∙ sym (ap (λ (n : ℕ). (spot setup n).payload_size) chunk_is ∙ sized))
+      fit = fits_new setup new chunk claims.words view.begun [] listed (chunk_id ∙ position_is) (whole ∙ sym (ap (λ (n : ℕ). (spot setup n).payload_size) chunk_is ∙ sized))
           sealed_is at_is count_is;
-      follows = heads_new new chunk.held.chunk chunk.held.id claims.words view.begun [] (held_head (chunk.count + 1) chunk.continues) listed (chunk_id ∙ id_is);
+      follows = heads_new new chunk.held.chunk chunk.held.position claims.words view.begun [] (held_head (chunk.count + 1) chunk.continues) listed (chunk_id ∙ position_is);
       room = room;
       few = omega (arith, count_is);
       ids = omega (arith, chunk_id, ids);
       apart = λ goes. absurd (true≢false (sym goes ∙ continues_is));
       begins = λ packet counted later fragment bare started counts same.
-          started_inside site account packet new later pending chunk fragment idle.pages view.begun (fresh claims.words) [] counted room filled listed idle.shown (chunk_id ∙ id_is ∙ long)
+          started_inside site account packet new later pending chunk fragment idle.pages view.begun (fresh claims.words) [] counted room filled listed idle.shown (chunk_id ∙ position_is ∙ long)
           (ap (λ (n : ℕ). (spot setup n).payload_size) chunk_is ∙ sized) whole idle.holes (omega (arith, ap length idle.unsent))
           (subst (λ (b : Bool). IsWriting site.size packet account.packets idle.pages b [] [] pending.unsent [] []) (sym continues_is)
           (subst (λ (xs : List Patch). IsWriting site.size packet account.packets idle.pages false [] [] xs [] []) (sym idle.unsent)
@@ -159,12 +159,12 @@ none_empty : (first : List ℕ) (others : List (List ℕ)) → (length (first �
 none_empty first others = ne_eqb (length (first ∷ others)) 0 (λ e. omega (arith, e))
 
 pub behind_roomy : (site : Site) (account : Account) (view : WriterView) (pending : Pending) (chunk : HeldChunk)
-    → chunk.held.id + 1 + PACKET_IDS ≤ ID_LIMIT → has_room site.size chunk ≡ true
+    → chunk.held.position + 1 + PACKET_IDS ≤ POSITION_LIMIT → has_room site.size chunk ≡ true
     → IsBehind site account view pending chunk → IsRoomy site account view pending chunk
 behind_roomy site account view pending chunk ids roomy behind =
     let done : List (List ℕ) = behind.first ∷ behind.others in
     let long : length behind.completed ≡ length behind.pages = shows_long site 0 behind.completed behind.pages behind.shown in
-    let stored : head_at view chunk.held.id ≡ held_head chunk.count chunk.continues = behind_head site account view pending chunk behind in
+    let stored : head_at view chunk.held.position ≡ held_head chunk.count chunk.continues = behind_head site account view pending chunk behind in
     let parts = room_parts chunk.at site.size chunk.count roomy in
     let room : chunk.at + 12 ≤ vec_len chunk.held.body.payload = omega (arith, parts.0, behind.whole) in
     let chains : List Chain = raw_chains (behind.pages ++ page_with chunk.continues done ∷ []) in
@@ -179,7 +179,7 @@ behind_roomy site account view pending chunk ids roomy behind =
       ids = omega (arith, ids);
       apart = λ goes. omega (arith, behind.filled.at_is, length-append (framed behind.first) (frames behind.others), length-framed behind.first);
       begins = λ packet counted later fragment bare started counts same.
-          started_inside site account packet view later pending chunk fragment behind.pages behind.completed behind.draft done counted room behind.filled behind.begun behind.shown behind.id
+          started_inside site account packet view later pending chunk fragment behind.pages behind.completed behind.draft done counted room behind.filled behind.begun behind.shown behind.position
           behind.sized behind.whole behind.holes behind.few
           (writing_begun site.size packet account.packets behind.pages chunk.continues done [] chains pending.unsent behind.between
           (earlier_pieces-more behind.pages chunk.continues behind.first behind.others) (chains_before-more behind.pages chunk.continues behind.first behind.others) behind.continues_is
@@ -195,7 +195,7 @@ behind_roomy site account view pending chunk ids roomy behind =
 -- The held chunk was completed, since it has no room.
 pub behind_idle : (site : Site) (account : Account) (view new : WriterView) (pending after : Pending) (chunk : HeldChunk)
     → chunk.count ≤ 1023 → after ≡ record pending { unsent = [] }
-    → new ≡ completes view chunk.held.chunk chunk.held.id (behind_content site pending chunk)
+    → new ≡ completes view chunk.held.chunk chunk.held.position (behind_content site pending chunk)
     → has_room site.size chunk ≡ false → IsBehind site account view pending chunk → IsIdle site account new after
 behind_idle site account view new pending after chunk few pending_is is full behind =
     completed_idle site account account.flushed view new new pending after chunk few pending_is is refl (λ chains e. e) (inr full) behind
@@ -206,11 +206,11 @@ room_of site chunk answer whole is = sym (is ∙ ap (λ (n : ℕ). nat_le (chunk
 
 -- a writer that holds a chunk with room hasn't stalled
 pub roomy_goes : (state : State) → is_roomy state ≡ true → is_stalled state ≡ false
-roomy_goes (Idle next_id) roomy = refl
+roomy_goes (Idle next_position) roomy = refl
 roomy_goes (Between chunk) roomy = refl
 roomy_goes (Writing fragment) roomy = refl
-roomy_goes (Dropping next_id) roomy = refl
-roomy_goes (Stalled next_id) roomy = absurd (true≢false (sym roomy))
+roomy_goes (Dropping next_position) roomy = refl
+roomy_goes (Stalled next_position) roomy = absurd (true≢false (sym roomy))
 
 -- The set-up and the seat's place are the same throughout.
 

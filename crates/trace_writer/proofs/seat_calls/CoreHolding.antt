@@ -27,14 +27,14 @@ use Rattle.trace_writer.proofs.accounts.Possible.{ended_possible, finished_possi
 -- inside a packet the writer holds a chunk where the packet isn't lost
 inside_is : (site : Site) (account : Account) (view : WriterView) (pending : Pending) (packet : Option OpenPacket) (state : State) → StateAgrees site account view pending state
     → is_inside packet state ≡ true → is_stalled_state state ≡ false → not (is_empty state) ≡ holds_newest account
-inside_is site account view pending packet (Idle next_id) agrees inside goes = absurd (true≢false (sym inside))
+inside_is site account view pending packet (Idle next_position) agrees inside goes = absurd (true≢false (sym inside))
 inside_is site account view pending packet (Between chunk) agrees inside goes = absurd (true≢false (sym inside))
 inside_is site account view pending packet (Writing fragment) agrees inside goes =
     let lost : is_lost agrees.packet ≡ false = not_lost agrees.packet agrees.inside.writing.kept agrees.inside.writing.given_up in
     sym (ap holds_newest (account_is account agrees.packet agrees.older agrees.packets agrees.unflushed) ∙ ap (λ (b : Bool). not (b || false)) lost)
-inside_is site account view pending packet (Dropping next_id) agrees inside goes =
+inside_is site account view pending packet (Dropping next_position) agrees inside goes =
     sym (ap holds_newest (account_is account agrees.1.packet agrees.1.older agrees.1.packets agrees.1.unflushed) ∙ ap (λ (b : Bool). not (b || false)) agrees.1.lost)
-inside_is site account view pending packet (Stalled next_id) agrees inside goes = absurd (true≢false goes)
+inside_is site account view pending packet (Stalled next_position) agrees inside goes = absurd (true≢false goes)
 
 pub inside_holds : (setup : Setup) (place : ℕ) (view : WriterView) (writer : Writer) → Agrees setup place view writer → in_packet view ≡ true → is_stalled_state writer.state ≡ false
     → not (is_empty writer.state) ≡ holds_newest (account_of view.calls)
@@ -45,11 +45,11 @@ inside_holds setup place view writer agrees writes goes =
 -- no flush came behind the begin of a packet
 unflushed_is : (site : Site) (account : Account) (view : WriterView) (pending : Pending) (packet : Option OpenPacket) (state : State) → StateAgrees site account view pending state
     → is_inside packet state ≡ true → is_stalled_state state ≡ false → account.flushed ≡ false
-unflushed_is site account view pending packet (Idle next_id) agrees inside goes = absurd (true≢false (sym inside))
+unflushed_is site account view pending packet (Idle next_position) agrees inside goes = absurd (true≢false (sym inside))
 unflushed_is site account view pending packet (Between chunk) agrees inside goes = absurd (true≢false (sym inside))
 unflushed_is site account view pending packet (Writing fragment) agrees inside goes = agrees.unflushed
-unflushed_is site account view pending packet (Dropping next_id) agrees inside goes = agrees.1.unflushed
-unflushed_is site account view pending packet (Stalled next_id) agrees inside goes = absurd (true≢false goes)
+unflushed_is site account view pending packet (Dropping next_position) agrees inside goes = agrees.1.unflushed
+unflushed_is site account view pending packet (Stalled next_position) agrees inside goes = absurd (true≢false goes)
 
 finished_holds : (packets : List Packet) (flushed empty : Bool) → flushed ≡ false → is_writing packets ≡ true
     → empty ≡ newest_is_lost (on_newest finished_packet (record { packets = packets; flushed = flushed })).packets

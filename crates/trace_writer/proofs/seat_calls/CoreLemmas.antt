@@ -153,62 +153,62 @@ bytes_call field times text head account is = ap (λ (bytes : List ℕ). on_newe
 
 -- Chunks
 
-many_images : (site : Site) (id : ℕ) (begun : List BegunChunk) (pages : List Page) → ShowsPages site id begun pages → length (completed_images begun) ≡ length begun
-many_images site id [] pages shown = refl
-many_images site id (Held chunk head ∷ begun) pages shown = absurd shown
-many_images site id (Completed chunk content ∷ begun) [] shown = absurd shown
-many_images site id (Completed chunk content ∷ begun) (page ∷ pages) shown = ap suc (many_images site (suc id) begun pages shown.1)
+many_images : (site : Site) (position : ℕ) (begun : List BegunChunk) (pages : List Page) → ShowsPages site position begun pages → length (completed_images begun) ≡ length begun
+many_images site position [] pages shown = refl
+many_images site position (Held chunk head ∷ begun) pages shown = absurd shown
+many_images site position (Completed chunk content ∷ begun) [] shown = absurd shown
+many_images site position (Completed chunk content ∷ begun) (page ∷ pages) shown = ap suc (many_images site (suc position) begun pages shown.1)
 
 -- so many chunks were begun, and so many of them completed, where one is held
-pub record CountsHeld (id : ℕ) (begun : List BegunChunk) : Type 0 where
-  pub begun_is : length begun ≡ id + 1
-  pub completed_is : id ≡ length (completed_images begun)
+pub record CountsHeld (position : ℕ) (begun : List BegunChunk) : Type 0 where
+  pub begun_is : length begun ≡ position + 1
+  pub completed_is : position ≡ length (completed_images begun)
 
-counts_held : (site : Site) (id chunk : ℕ) (head : Draft) (begun completed : List BegunChunk) (pages : List Page) → begun ≡ completed ++ Held chunk head ∷ []
-    → ShowsPages site 0 completed pages → id ≡ length pages → CountsHeld id begun
-counts_held site id chunk head begun completed pages is shown id_is =
+counts_held : (site : Site) (position chunk : ℕ) (head : Draft) (begun completed : List BegunChunk) (pages : List Page) → begun ≡ completed ++ Held chunk head ∷ []
+    → ShowsPages site 0 completed pages → position ≡ length pages → CountsHeld position begun
+counts_held site position chunk head begun completed pages is shown position_is =
     let long : length completed ≡ length pages = shows_long site 0 completed pages shown in
     record {
-      begun_is = ap length is ∙ length-append completed (Held chunk head ∷ []) ∙ omega (arith, long, id_is);
-      completed_is = id_is ∙ sym long ∙ sym (many_images site 0 completed pages shown)
+      begun_is = ap length is ∙ length-append completed (Held chunk head ∷ []) ∙ omega (arith, long, position_is);
+      completed_is = position_is ∙ sym long ∙ sym (many_images site 0 completed pages shown)
           ∙ sym (ap length (ap completed_images is ∙ images_held completed chunk head));
     }
 
 pub between_counts : (setup : Setup) (place : ℕ) (view : WriterView) (writer : Writer) (chunk : HeldChunk) → writer.state ≡ Between chunk
-    → Agrees setup place view writer → CountsHeld chunk.held.id view.begun
+    → Agrees setup place view writer → CountsHeld chunk.held.position view.begun
 between_counts setup place view writer chunk state agrees =
     let behind = subst (StateAgrees (site_of setup place writer.route) (account_of view.calls) view writer.pending) state agrees.state in
-    counts_held (site_of setup place writer.route) chunk.held.id chunk.held.chunk behind.draft view.begun behind.completed behind.pages behind.begun behind.shown behind.id
+    counts_held (site_of setup place writer.route) chunk.held.position chunk.held.chunk behind.draft view.begun behind.completed behind.pages behind.begun behind.shown behind.position
 
 pub writing_counts : (setup : Setup) (place : ℕ) (view : WriterView) (writer : Writer) (fragment : OpenFragment) → writer.state ≡ Writing fragment
-    → Agrees setup place view writer → CountsHeld fragment.held.id view.begun
+    → Agrees setup place view writer → CountsHeld fragment.held.position view.begun
 writing_counts setup place view writer fragment state agrees =
     let into = subst (StateAgrees (site_of setup place writer.route) (account_of view.calls) view writer.pending) state agrees.state in
-    counts_held (site_of setup place writer.route) fragment.held.id fragment.held.chunk into.inside.draft view.begun into.inside.completed into.inside.pages
-    into.inside.begun into.inside.shown into.inside.id
+    counts_held (site_of setup place writer.route) fragment.held.position fragment.held.chunk into.inside.draft view.begun into.inside.completed into.inside.pages
+    into.inside.begun into.inside.shown into.inside.position
 
 -- and where none is held
-pub record CountsIdle (next_id : ℕ) (begun : List BegunChunk) : Type 0 where
-  pub begun_is : length begun ≡ next_id
-  pub completed_is : next_id ≡ length (completed_images begun)
+pub record CountsIdle (next_position : ℕ) (begun : List BegunChunk) : Type 0 where
+  pub begun_is : length begun ≡ next_position
+  pub completed_is : next_position ≡ length (completed_images begun)
 
-counts_idle : (site : Site) (next_id : ℕ) (begun : List BegunChunk) (pages : List Page) → next_id ≡ length begun → ShowsPages site 0 begun pages → CountsIdle next_id begun
-counts_idle site next_id begun pages next shown = record { begun_is = sym next; completed_is = next ∙ sym (many_images site 0 begun pages shown) }
+counts_idle : (site : Site) (next_position : ℕ) (begun : List BegunChunk) (pages : List Page) → next_position ≡ length begun → ShowsPages site 0 begun pages → CountsIdle next_position begun
+counts_idle site next_position begun pages next shown = record { begun_is = sym next; completed_is = next ∙ sym (many_images site 0 begun pages shown) }
 
-pub idle_counts : (setup : Setup) (place : ℕ) (view : WriterView) (writer : Writer) (next_id : ℕ) → writer.state ≡ Idle next_id
-    → Agrees setup place view writer → CountsIdle next_id view.begun
-idle_counts setup place view writer next_id state agrees =
+pub idle_counts : (setup : Setup) (place : ℕ) (view : WriterView) (writer : Writer) (next_position : ℕ) → writer.state ≡ Idle next_position
+    → Agrees setup place view writer → CountsIdle next_position view.begun
+idle_counts setup place view writer next_position state agrees =
     let idle = subst (StateAgrees (site_of setup place writer.route) (account_of view.calls) view writer.pending) state agrees.state in
-    counts_idle (site_of setup place writer.route) next_id view.begun idle.1.pages idle.0 idle.1.shown
+    counts_idle (site_of setup place writer.route) next_position view.begun idle.1.pages idle.0 idle.1.shown
 
-pub dropping_counts : (setup : Setup) (place : ℕ) (view : WriterView) (writer : Writer) (next_id : ℕ) → writer.state ≡ Dropping next_id
-    → Agrees setup place view writer → CountsIdle next_id view.begun
-dropping_counts setup place view writer next_id state agrees =
+pub dropping_counts : (setup : Setup) (place : ℕ) (view : WriterView) (writer : Writer) (next_position : ℕ) → writer.state ≡ Dropping next_position
+    → Agrees setup place view writer → CountsIdle next_position view.begun
+dropping_counts setup place view writer next_position state agrees =
     let lost = subst (StateAgrees (site_of setup place writer.route) (account_of view.calls) view writer.pending) state agrees.state in
-    counts_idle (site_of setup place writer.route) next_id view.begun lost.1.idle.pages lost.0 lost.1.idle.shown
+    counts_idle (site_of setup place writer.route) next_position view.begun lost.1.idle.pages lost.0 lost.1.idle.shown
 
-pub stalled_counts : (setup : Setup) (place : ℕ) (view : WriterView) (writer : Writer) (next_id : ℕ) → writer.state ≡ Stalled next_id
-    → Agrees setup place view writer → CountsIdle next_id view.begun
-stalled_counts setup place view writer next_id state agrees =
+pub stalled_counts : (setup : Setup) (place : ℕ) (view : WriterView) (writer : Writer) (next_position : ℕ) → writer.state ≡ Stalled next_position
+    → Agrees setup place view writer → CountsIdle next_position view.begun
+stalled_counts setup place view writer next_position state agrees =
     let stuck = subst (StateAgrees (site_of setup place writer.route) (account_of view.calls) view writer.pending) state agrees.state in
-    counts_idle (site_of setup place writer.route) next_id view.begun stuck.1.pages stuck.0 stuck.1.shown
+    counts_idle (site_of setup place writer.route) next_position view.begun stuck.1.pages stuck.0 stuck.1.shown

@@ -84,13 +84,13 @@ ended_page continues fragments rest patches = record {
 -- what the completed chunk has
 abbrev pub behind_content : Site → Pending → HeldChunk → Content
 behind_content site pending chunk =
-    completed_chunk site.place chunk.held.id chunk.count (flags_value chunk.continues false false) chunk.held.body.payload.items
+    completed_chunk site.place chunk.held.position chunk.count (flags_value chunk.continues false false) chunk.held.body.payload.items
     (with_lasts (hole_chunks pending.holes) pending.unsent) site.buffer
 
 -- The held chunk is completed, and a packet is to begin in a new one.
 pub completed_idle : (site : Site) (account : Account) (flushed : Bool) (view new later : WriterView) (pending after : Pending) (chunk : HeldChunk)
     → chunk.count ≤ 1023 → after ≡ record pending { unsent = [] }
-    → new ≡ completes view chunk.held.chunk chunk.held.id (behind_content site pending chunk)
+    → new ≡ completes view chunk.held.chunk chunk.held.position (behind_content site pending chunk)
     → later.begun ≡ new.begun
     → ((chains : List Chain) → is_fresh site.size account.flushed account.packets chains ≡ true → is_fresh site.size flushed account.packets chains ≡ true)
     → (flushed ≡ true) ⊎ (has_room site.size chunk ≡ false)
@@ -101,12 +101,12 @@ completed_idle site account flushed view new later pending after chunk few pendi
     let page : Page = ended_page chunk.continues fragments behind.filled.rest patches in
     let pages : List Page = behind.pages ++ page ∷ [] in
     let long : length behind.completed ≡ length behind.pages = shows_long site 0 behind.completed behind.pages behind.shown in
-    let content : behind_content site pending chunk ≡ content_with site chunk.held.id page =
-    content_is site chunk.held.id chunk.count chunk.held.body.payload.items page behind.filled.count_is
+    let content : behind_content site pending chunk ≡ content_with site chunk.held.position page =
+    content_is site chunk.held.position chunk.count chunk.held.body.payload.items page behind.filled.count_is
     (behind.filled.payload_is ∙ sym (laid_all fragments behind.filled.rest)) in
     let begun : new.begun ≡ behind.completed ++ Completed chunk.held.chunk (behind_content site pending chunk) ∷ [] =
-    completed_here view new behind.completed [] chunk.held.chunk chunk.held.id behind.draft (behind_content site pending chunk) behind.begun
-    (behind.id ∙ sym long) is in
+    completed_here view new behind.completed [] chunk.held.chunk chunk.held.position behind.draft (behind_content site pending chunk) behind.begun
+    (behind.position ∙ sym long) is in
     let same_chains : raw_chains pages ≡ raw_chains (behind.pages ++ page_with chunk.continues fragments ∷ []) =
     raw_chains-one behind.pages page (page_with chunk.continues fragments) refl refl refl refl in
     let brings : page.patches ≡ with_lasts [] pending.unsent = ap (λ (holes : List Hole). with_lasts (hole_chunks holes) pending.unsent) behind.holes in
@@ -119,7 +119,7 @@ completed_idle site account flushed view new later pending after chunk few pendi
     record {
       pages = pages;
       shown = subst (λ (xs : List BegunChunk). ShowsPages site 0 xs pages) (sym (same ∙ begun))
-          (shows_one site 0 chunk.held.id chunk.held.chunk behind.completed behind.pages (behind_content site pending chunk) page behind.shown (omega (arith, behind.id)) content);
+          (shows_one site 0 chunk.held.position chunk.held.chunk behind.completed behind.pages (behind_content site pending chunk) page behind.shown (omega (arith, behind.position)) content);
       holes = ap (λ (p : Pending). p.holes) pending_is ∙ behind.holes;
       unsent = ap (λ (p : Pending). p.unsent) pending_is;
       ended = last_runs_on-one behind.pages false page;
@@ -139,10 +139,10 @@ completed_idle site account flushed view new later pending after chunk few pendi
 
 -- the held chunk stays the last one that was begun
 pub begun_one_more : (site : Site) (account : Account) (view new : WriterView) (pending : Pending) (chunk : HeldChunk) (content : Content)
-    → new ≡ completes view chunk.held.chunk chunk.held.id content
-    → IsBehind site account view pending chunk → length new.begun ≡ chunk.held.id + 1
+    → new ≡ completes view chunk.held.chunk chunk.held.position content
+    → IsBehind site account view pending chunk → length new.begun ≡ chunk.held.position + 1
 begun_one_more site account view new pending chunk content is behind =
     let long : length behind.completed ≡ length behind.pages = shows_long site 0 behind.completed behind.pages behind.shown in
-    ap length (completed_here view new behind.completed [] chunk.held.chunk chunk.held.id behind.draft content behind.begun (behind.id ∙ sym long) is)
+    ap length (completed_here view new behind.completed [] chunk.held.chunk chunk.held.position behind.draft content behind.begun (behind.position ∙ sym long) is)
     ∙ length-append behind.completed (Completed chunk.held.chunk content ∷ [])
-    ∙ omega (arith, long, behind.id)
+    ∙ omega (arith, long, behind.position)

@@ -41,8 +41,8 @@ pub record EndsStuck (site : Site) (old new : WriterView) (before : Pending) (fr
   pub payload : List ℕ
   pub payload_is : payload ≡ with_bytes fragment.held.body.payload.items fragment.start (redundant (fragment.at - fragment.start - 4))
   pub calls : new.calls ≡ old.calls
-  pub begun : (completed : List BegunChunk) (draft : Draft) → old.begun ≡ completed ++ Held fragment.held.chunk draft ∷ [] → fragment.held.id ≡ length completed
-      → new.begun ≡ completed ++ Completed fragment.held.chunk (run_content site before payload fragment.held.id fragment.count fragment.continues) ∷ []
+  pub begun : (completed : List BegunChunk) (draft : Draft) → old.begun ≡ completed ++ Held fragment.held.chunk draft ∷ [] → fragment.held.position ≡ length completed
+      → new.begun ≡ completed ++ Completed fragment.held.chunk (run_content site before payload fragment.held.position fragment.count fragment.continues) ∷ []
 
 -- the pages are a cut of the packet with all that its writer was asked to write
 stuck_with : (site : Site) (packet later : Packet) (older : List Packet) (old new : WriterView) (before : Pending) (fragment : OpenFragment) (coming : List ℕ)
@@ -57,12 +57,12 @@ stuck_with site packet later older old new before fragment coming w left writing
       stalls = e.stalls;
       pages = w.pages ++ page ∷ [];
       shown = subst (λ (begun : List BegunChunk). ShowsPages site 0 begun (w.pages ++ page ∷ []))
-          (sym (e.begun w.completed w.draft w.begun (w.id ∙ sym (shows_long site 0 w.completed w.pages w.shown))))
+          (sym (e.begun w.completed w.draft w.begun (w.position ∙ sym (shows_long site 0 w.completed w.pages w.shown))))
           (page_shown site packet older old before fragment e.payload w e.payload_is);
       cut = raw_cut_is_cut site.size (later ∷ older) (w.pages ++ page ∷ [])
           (writing_stalled_cut site.size packet later older w.pages page w.done w.now before.unsent (reverse before.holes) coming refl refl
           (page_full site packet older old before fragment w) (sym (lasts_reverse before.holes before.unsent))
-          (ap (λ (i : ℕ). is_among i (hole_chunks before.holes)) w.id ∙ sym (among_reverse (length w.pages) before.holes))
+          (ap (λ (i : ℕ). is_among i (hole_chunks before.holes)) w.position ∙ sym (among_reverse (length w.pages) before.holes))
           left writing goes);
       runs = writing_stalled_runs site.size packet later older w.pages page w.done w.now before.unsent (reverse before.holes) coming refl writing goes;
     }
@@ -116,18 +116,18 @@ stops_stuck site old new before after fragment filled e =
         (λ m among. only_one m n among ∙ ap (λ (levels : List (List ℕ)). length (flat open_length levels)) same)) e
 
 -- as many chunks are begun once one of them is completed
-pub begun_many : (old new : WriterView) (chunk id : ℕ) (content : Content) → new ≡ completes old chunk id content → length new.begun ≡ length old.begun
-begun_many old new chunk id content is =
-    ap (λ (v : WriterView). length v.begun) is ∙ length-set old.begun id (Completed chunk content)
+pub begun_many : (old new : WriterView) (chunk position : ℕ) (content : Content) → new ≡ completes old chunk position content → length new.begun ≡ length old.begun
+begun_many old new chunk position content is =
+    ap (λ (v : WriterView). length v.begun) is ∙ length-set old.begun position (Completed chunk content)
 
 pub ends_stuck : (setup : Setup) (place : ℕ) (route : Route) (old one new : WriterView) (before : Pending) (fragment : OpenFragment) (ended : HeldChunk)
     → route.spec.policy ≡ Stalls → Ends fragment ended
-    → one ≡ run_completion place route.spec.buffer before old ended.held.body.payload.items ended.held.chunk ended.held.id ended.count ended.continues
+    → one ≡ run_completion place route.spec.buffer before old ended.held.body.payload.items ended.held.chunk ended.held.position ended.count ended.continues
     → new.begun ≡ one.begun → new.calls ≡ one.calls → EndsStuck (site_of setup place route) old new before fragment
 ends_stuck setup place route old one new before fragment ended stalls e view begun_is calls_is = record {
   stalls = stalls;
   payload = ended.held.body.payload.items;
   payload_is = e.payload;
   calls = calls_is ∙ ap (λ (v : WriterView). v.calls) view;
-  begun = λ completed draft begun id. begun_is ∙ completed_before place (site_of setup place route) old one before fragment ended completed [] draft e refl view begun id;
+  begun = λ completed draft begun position. begun_is ∙ completed_before place (site_of setup place route) old one before fragment ended completed [] draft e refl view begun position;
 }

@@ -15,7 +15,7 @@ returns-in-Stalls-clause-agrees g c =
     let view = g.W.Words.means.view c.args.table.now c.args.seat.now in
     let writer = c.args.writer.now in
     let nowhere = subst (λ (p : Place). IsPlace (site_of setup place writer.route) (account_of view.calls) view writer.pending p) c.in-Nowhere.is c.requires.place in
-    stall_nowhere setup place view writer _ c.in-Nowhere.next_id (ap (λ (state : State). record writer { state = state }) c.put_state.ensures)
+    stall_nowhere setup place view writer _ c.in-Nowhere.next_position (ap (λ (state : State). record writer { state = state }) c.put_state.ensures)
     c.in-Stalls.is nowhere.0 nowhere.1 c.requires.agrees
 
 pub returns-in-Stalls-clause-quiet : goal.returns-in-Stalls-clause-quiet

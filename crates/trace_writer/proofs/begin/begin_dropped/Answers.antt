@@ -12,14 +12,14 @@ returns-clause-agrees g c =
     let view = g.W.Words.means.view c.args.table.now c.args.seat.now in
     let writer = c.args.writer.now in
     let open_one = c.new.result in
-    let next_id = c.args.next_id in
+    let next_position = c.args.next_position in
     let begun = c.saturating_add-writer.result in
     let dropped = c.saturating_add-writer-2.result in
-    begin_nowhere setup place view (g.W.Words.means.view c.note_call.new.self c.note_call.new.seat) writer _ next_id open_one
+    begin_nowhere setup place view (g.W.Words.means.view c.note_call.new.self c.note_call.new.seat) writer _ next_position open_one
     c.new.ensures.len c.new.ensures.starts c.note_call.ensures.view
     (ap (λ (state : State). record writer { state = state; packet = Some open_one; begun = begun; dropped = dropped }) c.put_state.ensures
-    ∙ ap (λ (n : ℕ). record writer { state = Dropping next_id; packet = Some open_one; begun = n; dropped = dropped }) c.saturating_add-writer.ensures
-    ∙ ap (λ (n : ℕ). record writer { state = Dropping next_id; packet = Some open_one; begun = min (writer.begun + 1) 18446744073709551615; dropped = n }) c.saturating_add-writer-2.ensures)
+    ∙ ap (λ (n : ℕ). record writer { state = Dropping next_position; packet = Some open_one; begun = n; dropped = dropped }) c.saturating_add-writer.ensures
+    ∙ ap (λ (n : ℕ). record writer { state = Dropping next_position; packet = Some open_one; begun = min (writer.begun + 1) 18446744073709551615; dropped = n }) c.saturating_add-writer-2.ensures)
     c.requires.next c.requires.idle c.requires.agrees
 
 pub returns-clause-quiet : goal.returns-clause-quiet

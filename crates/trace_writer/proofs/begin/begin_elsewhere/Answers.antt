@@ -1,5 +1,5 @@
 use Rattle.std.proofs.Common.{◌∙◌, refl, sym, ap, subst, arith, rules}
-use Rattle.trace_writer.proofs.packets.Ending.{behind_of, behind_id, idle_of}
+use Rattle.trace_writer.proofs.packets.Ending.{behind_of, behind_position, idle_of}
 use Rattle.trace_writer.specs.Placing.{BeginsHere}
 use Rattle.trace_writer.specs.Site.{site_of}
 use Rattle.trace_writer.proofs.holding.KeptChunks.{shown_none_held}
@@ -11,12 +11,12 @@ pub held_or_new_place-place-requires-clause-ids : goal.held_or_new_place-place-r
 held_or_new_place-place-requires-clause-ids g c =
     let behind = behind_of (g.W.Words.means.setup c.args.table.now) (g.W.Words.means.place c.args.seat.now) (g.W.Words.means.view c.args.table.now c.args.seat.now) c.args.writer.now c.in-Between.chunk
     (sym c.take_state.ensures.taken ∙ c.in-Between.is) c.requires.agrees in
-    let id = behind_id _ _ (g.W.Words.means.view c.args.table.now c.args.seat.now) _ c.in-Between.chunk behind in
-    omega (arith, id, c.requires.ids)
+    let position = behind_position _ _ (g.W.Words.means.view c.args.table.now c.args.seat.now) _ c.in-Between.chunk behind in
+    omega (arith, position, c.requires.ids)
 
 pub new_place-place-requires-clause-none_held : goal.new_place-place-requires-clause-none_held
 new_place-place-requires-clause-none_held g c =
-    let idle = idle_of (g.W.Words.means.setup c.args.table.now) (g.W.Words.means.place c.args.seat.now) (g.W.Words.means.view c.args.table.now c.args.seat.now) c.args.writer.now c.in-Idle.next_id
+    let idle = idle_of (g.W.Words.means.setup c.args.table.now) (g.W.Words.means.place c.args.seat.now) (g.W.Words.means.view c.args.table.now c.args.seat.now) c.args.writer.now c.in-Idle.next_position
     (sym c.take_state.ensures.taken ∙ c.in-Idle.is) c.requires.agrees in
     shown_none_held (site_of (g.W.Words.means.setup c.args.table.now) (g.W.Words.means.place c.args.seat.now) c.args.writer.now.route) 0 (g.W.Words.means.view c.args.table.now c.args.seat.now).begun idle.pages idle.shown
 

@@ -3,7 +3,7 @@ use Rattle.std.specs.Prelude.{vec_len}
 use Rattle.trace_writer.specs.Placing.{is_roomy}
 use Rattle.trace_writer.specs.Site.{site_of}
 use Rattle.trace_writer.specs.States.{has_room}
-use Rattle.trace_writer.proofs.packets.Ending.{behind_of, behind_id}
+use Rattle.trace_writer.proofs.packets.Ending.{behind_of, behind_position}
 use Rattle.trace_writer.proofs.packets.Starting.{behind_roomy, room_of}
 use Rattle.trace_writer.proofs.begin.begin_here.Goals as goal
 
@@ -15,7 +15,7 @@ begin_kept-requires-clause-roomy g c =
     let was = sym c.take_state.ensures.taken ∙ c.in-Between.is in
     let site = site_of setup place c.args.writer.now.route in
     let behind = behind_of setup place view c.args.writer.now chunk was c.requires.agrees in
-    let id = behind_id _ _ view _ chunk behind in
+    let position = behind_position _ _ view _ chunk behind in
     let roomy : has_room (vec_len chunk.held.body.payload) chunk ≡ true = sym (ap is_roomy was) ∙ c.requires.roomy in
-    behind_roomy site _ view c.args.writer.now.pending chunk (omega (arith, id, c.requires.ids))
+    behind_roomy site _ view c.args.writer.now.pending chunk (omega (arith, position, c.requires.ids))
     (room_of site chunk (has_room (vec_len chunk.held.body.payload) chunk) behind.whole refl ∙ roomy) behind

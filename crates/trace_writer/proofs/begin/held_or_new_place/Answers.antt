@@ -7,6 +7,10 @@ use Rattle.trace_writer.proofs.holding.KeptChunks.{shown_none_held}
 use Rattle.trace_writer.proofs.packets.Starting.{behind_roomy, behind_idle, room_of, idle_there, place_here}
 use Rattle.trace_writer.proofs.claims.Working.{work_none, work_before}
 use Rattle.trace_writer.proofs.begin.held_or_new_place.Goals as goal
+use Rattle.trace_writer.proofs.claims.RouteIds.{route_from}
+
+pub complete-requires-clause-from : goal.complete-requires-clause-from
+complete-requires-clause-from g c = route_from (g.W.Words.means.setup c.args.table.now) (g.W.Words.means.place c.args.seat.now) c.args.route.now c.requires.route
 
 pub complete-requires-clause-fit : goal.complete-requires-clause-fit
 complete-requires-clause-fit g c = behind_fits _ _ (g.W.Words.means.view c.args.table.now c.args.seat.now) _ c.args.chunk c.requires.behind.1

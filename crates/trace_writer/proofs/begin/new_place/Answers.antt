@@ -7,7 +7,7 @@ use Rattle.trace_writer.proofs.accounts.Agreeing.{idle_seen}
 pub returns-in-Some-clause-place : goal.returns-in-Some-clause-place
 returns-in-Some-clause-place g c = λ account pending idle.
     new_roomy (g.W.Words.means.setup c.args.table.now) (g.W.Words.means.place c.args.seat.now) c.args.route.now account (g.W.Words.means.view c.args.table.now c.args.seat.now)
-    (g.W.Words.means.view c.claim_next.new.table c.claim_next.new.seat) pending c.in-Some.held c.new.result c.args.next_id
+    (g.W.Words.means.view c.claim_next.new.table c.claim_next.new.seat) pending c.in-Some.held c.new.result c.args.next_position
     c.requires.route c.new.ensures.held c.new.ensures.sealed c.new.ensures.at c.new.ensures.count c.new.ensures.continues c.requires.next c.requires.ids
     c.in-Some.ensures.won c.in-Some.ensures.begun idle
 

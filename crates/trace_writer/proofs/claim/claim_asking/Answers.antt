@@ -1,4 +1,4 @@
-use Rattle.std.proofs.Common.{Bool, true, false, List, sym, subst, arith}
+use Rattle.std.proofs.Common.{Bool, true, false, List, sym, subst, arith, ℕ, ◌<◌, ◌∙◌, ap, length}
 use Rattle.chunk_plain.specs.Setup.{Setup}
 use Rattle.chunk_plain.specs.Views.{BegunChunk, WriterView}
 use Rattle.claim_arbiter.specs.Claiming.{ClaimsInTurn}
@@ -8,6 +8,24 @@ use Rattle.trace_writer.proofs.claims.Asking.{none_yet, none_again, wins_in_turn
 use Rattle.trace_writer.proofs.holding.KeptChunks.{none_counted}
 use Rattle.trace_writer.proofs.claims.Working.{work_none, work_gets, work_behind, work_helped, work_refused}
 use Rattle.trace_writer.proofs.claim.claim_asking.Goals as goal
+use Rattle.trace_writer.proofs.claims.RouteIds.{next_id, begun_as}
+
+pub claim_over-requires-clause-id : goal.claim_over-requires-clause-id
+claim_over-requires-clause-id g c =
+    let i = c.claims.invariant in
+    next_id (g.W.Words.means.setup c.args.table.now) (g.W.Words.means.setup c.claims.table) (g.W.Words.means.place c.args.seat.now) (g.W.Words.means.place c.claims.seat) c.args.route.now
+    c.args.next_position (length (g.W.Words.means.view c.claims.table c.claims.seat).begun) c.id_of-id.result c.requires.route i.work.others.setup_stays i.work.others.place_stays
+    (c.requires.position ∙ ap length (sym i.none.begun)) c.id_of-id.ensures
+
+pub claim_over-requires-clause-few_begun : goal.claim_over-requires-clause-few_begun
+claim_over-requires-clause-few_begun g c =
+    subst (λ (n : ℕ). n < 4294967295) (c.requires.position ∙ ap length (sym c.claims.invariant.none.begun)) c.requires.position_fits
+
+pub returns-in-Some-clause-begun : goal.returns-in-Some-clause-begun
+returns-in-Some-clause-begun g c =
+    let i = c.claims.invariant in
+    begun_as (g.W.Words.means.setup c.args.table.now) (g.W.Words.means.setup c.claims.table) c.in-Some.held.chunk c.args.next_position
+    (length (g.W.Words.means.view c.claims.table c.claims.seat).begun) c.in-Some.held i.work.others.setup_stays (c.requires.position ∙ ap length (sym i.none.begun)) c.in-Some.ensures.begun
 
 pub claims-init : goal.claims-init
 claims-init g c = record {

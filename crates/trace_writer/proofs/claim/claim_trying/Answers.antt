@@ -1,10 +1,28 @@
-use Rattle.std.proofs.Common.{sym, subst, arith}
+use Rattle.std.proofs.Common.{sym, subst, arith, ℕ, ◌<◌, ◌∙◌, ap, length}
 use Rattle.chunk_plain.specs.Views.{WriterView}
 use Rattle.trace_writer.specs.Claims.{FindsNone}
 use Rattle.trace_writer.specs.OwnSteps.{NoneHeld}
 use Rattle.trace_writer.proofs.claims.Asking.{none_yet, none_again, won_counts, lost_counts, gets_chunk, in_vain}
 use Rattle.trace_writer.proofs.claims.Trying.{within, trying_none, trying_on, trying_gets, tried_last}
 use Rattle.trace_writer.proofs.claim.claim_trying.Goals as goal
+use Rattle.trace_writer.proofs.claims.RouteIds.{next_id, begun_as}
+
+pub claim_over-requires-clause-id : goal.claim_over-requires-clause-id
+claim_over-requires-clause-id g c =
+    let i = c.tries.invariant in
+    next_id (g.W.Words.means.setup c.args.table.now) (g.W.Words.means.setup c.tries.table) (g.W.Words.means.place c.args.seat.now) (g.W.Words.means.place c.tries.seat) c.args.route.now
+    c.args.next_position (length (g.W.Words.means.view c.tries.table c.tries.seat).begun) c.id_of-id.result c.requires.route i.trying.others.setup_stays i.trying.others.place_stays
+    (c.requires.position ∙ ap length (sym i.none.begun)) c.id_of-id.ensures
+
+pub claim_over-requires-clause-few_begun : goal.claim_over-requires-clause-few_begun
+claim_over-requires-clause-few_begun g c =
+    subst (λ (n : ℕ). n < 4294967295) (c.requires.position ∙ ap length (sym c.tries.invariant.none.begun)) c.requires.position_fits
+
+pub returns-in-Some-clause-begun : goal.returns-in-Some-clause-begun
+returns-in-Some-clause-begun g c =
+    let i = c.tries.invariant in
+    begun_as (g.W.Words.means.setup c.args.table.now) (g.W.Words.means.setup c.tries.table) c.in-Some.held.chunk c.args.next_position
+    (length (g.W.Words.means.view c.tries.table c.tries.seat).begun) c.in-Some.held i.trying.others.setup_stays (c.requires.position ∙ ap length (sym i.none.begun)) c.in-Some.ensures.begun
 
 pub tries-init : goal.tries-init
 tries-init g c = record {
@@ -72,7 +90,8 @@ pub returns-clause-work : goal.returns-clause-work
 returns-clause-work g c =
     let route = c.args.route.now in let last = c.claim_over-2 in let e = last.ensures in
     tried_last g.W.Words.means g.H.HelperOn.needs g.H.HelperOn.helps
-    route c.args.tries c.args.help.now c.args.table.now c.args.seat.now c.args.steps.now c.tries.left c.tries.help c.tries.table c.tries.seat c.tries.steps c.args.next_id
+    route c.args.tries c.args.help.now c.args.table.now c.args.seat.now c.args.steps.now c.tries.left c.tries.help c.tries.table c.tries.seat c.tries.steps
+    (length (g.W.Words.means.view c.tries.table c.tries.seat).begun)
     last.new.table last.new.seat last.new.steps last.result g.met.H.HelperOn.needs_stay c.requires.trying c.tries.invariant.trying
     (let none = c.tries-test.false in omega (arith, none)) (within (g.W.Words.means.view c.tries.table c.tries.seat).begun)
     e.step e.won e.steps_won e.told_won e.lost e.steps_lost e.told_lost
@@ -81,7 +100,8 @@ pub returns-clause-begins : goal.returns-clause-begins
 returns-clause-begins g c holds =
     let route = c.args.route.now in let last = c.claim_over-2 in let e = last.ensures in
     tried_last g.W.Words.means g.H.HelperOn.needs g.H.HelperOn.helps
-    route c.args.tries c.args.help.now c.args.table.now c.args.seat.now c.args.steps.now c.tries.left c.tries.help c.tries.table c.tries.seat c.tries.steps c.args.next_id
+    route c.args.tries c.args.help.now c.args.table.now c.args.seat.now c.args.steps.now c.tries.left c.tries.help c.tries.table c.tries.seat c.tries.steps
+    (length (g.W.Words.means.view c.tries.table c.tries.seat).begun)
     last.new.table last.new.seat last.new.steps last.result g.met.H.HelperOn.needs_stay c.requires.trying (c.tries.invariant.begins holds)
     (let none = c.tries-test.false in omega (arith, none)) (λ is. subst NoneHeld (sym c.tries.invariant.none.begun) holds)
     e.step e.won e.steps_won e.told_won e.lost e.steps_lost e.told_lost

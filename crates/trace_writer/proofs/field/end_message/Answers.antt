@@ -48,7 +48,7 @@ returns-clause-agrees g c =
           w.close_hole.ensures c.note_call.ensures.view)
       | in-Dropping w ↦
           subst (λ (one : Writer). Agrees setup place new one) (sym w.writer-is)
-          (agrees_ended_dropping setup place view new c.args.writer.now c.args.writer.now.state w.in-Dropping.next_id
+          (agrees_ended_dropping setup place view new c.args.writer.now c.args.writer.now.state w.in-Dropping.next_position
           c.in-Some.packet c.end_nested-length.new.self c.end_nested-length.result c.requires.agrees w.in-Dropping.is w.in-Dropping.is c.in-Some.is pops
           c.note_call.ensures.view)
     ]

@@ -59,7 +59,7 @@ returns-in-Dropping-clause-written g c =
     let count = length c.args.head.now + c.args.times * length c.args.text.now in
     let long = field_long c.args.head.now c.args.text.now c.args.times in
     let agrees = agrees_dropping (g.W.Words.means.setup c.args.table.now) (g.W.Words.means.place c.args.seat.now) (g.W.Words.means.view c.args.table.now c.args.seat.now)
-    (g.W.Words.means.view c.note_call.new.self c.note_call.new.seat) c.args.writer.now c.put_state.new.state c.in-Dropping.next_id c.in-Some.packet c.add_field.new.self
+    (g.W.Words.means.view c.note_call.new.self c.note_call.new.seat) c.args.writer.now c.put_state.new.state c.in-Dropping.next_position c.in-Some.packet c.add_field.new.self
     count (with_more bytes) (call_of c.args.call) c.requires.agrees (sym c.in-Dropping.ensures.taken) c.put_state.ensures c.in-Some.is
     (grows_more bytes count long)
     (λ (packet : Packet) some m. measured_more c.in-Some.packet c.add_field.new.self packet bytes count long

@@ -65,7 +65,7 @@ pub returns-in-Dropping-clause-written : goal.returns-in-Dropping-clause-written
 returns-in-Dropping-clause-written g c =
     let tag = c.as_slice-tag.result.now in
     let agrees = agrees_dropping (g.W.Words.means.setup c.args.table.now) (g.W.Words.means.place c.args.seat.now) (g.W.Words.means.view c.args.table.now c.args.seat.now)
-    (g.W.Words.means.view c.note_call.new.self c.note_call.new.seat) c.args.writer.now c.put_state.new.state c.in-Dropping.next_id c.in-Some.packet c.add_nested.new.self
+    (g.W.Words.means.view c.note_call.new.self c.note_call.new.seat) c.args.writer.now c.put_state.new.state c.in-Dropping.next_position c.in-Some.packet c.add_nested.new.self
     (length tag + 4) (λ (packet : Packet). with_open (with_more tag packet)) (call.Nested c.args.field) c.requires.agrees (sym c.in-Dropping.ensures.taken)
     c.put_state.ensures c.in-Some.is (grows_nested tag)
     (λ (packet : Packet) some m. measured_nested c.in-Some.packet c.add_nested.new.self packet tag (length tag) refl c.add_nested.ensures.len c.add_nested.ensures.starts some m)

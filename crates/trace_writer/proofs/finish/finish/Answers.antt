@@ -18,7 +18,7 @@ returns-clause-agrees g c = elim c.match-take_state.branch [
       (sym c.take_state.ensures.taken ∙ w.in-Writing.is) c.requires.begun c.requires.depth c.note_call.ensures.view
       (record {
         chunk_is = ap (λ (held : Held). held.chunk) w.end.ensures.held;
-        id = ap (λ (held : Held). held.id) w.end.ensures.held;
+        position = ap (λ (held : Held). held.position) w.end.ensures.held;
         bytes = w.end.ensures.bytes;
         len = w.end.ensures.len;
         sealed = w.end.ensures.sealed;
@@ -31,7 +31,7 @@ returns-clause-agrees g c = elim c.match-take_state.branch [
       c.requires.agrees
   | in-Dropping w ↦
       finish_lost (g.W.Words.means.setup c.args.table.now) (g.W.Words.means.place c.args.seat.now) (g.W.Words.means.view c.args.table.now c.args.seat.now)
-      (g.W.Words.means.view c.note_call.new.self c.note_call.new.seat) c.args.writer.now _ w.in-Dropping.next_id
+      (g.W.Words.means.view c.note_call.new.self c.note_call.new.seat) c.args.writer.now _ w.in-Dropping.next_position
       (sym c.take_state.ensures.taken ∙ w.in-Dropping.is) c.note_call.ensures.view
       (ap (λ (writer : Writer). record writer { packet = None }) w.writer-is
       ∙ ap (λ (state : State). record c.args.writer.now { state = state; packet = None; follows_loss = true }) w.put_state-in-Dropping.ensures)

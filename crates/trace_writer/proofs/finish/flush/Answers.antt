@@ -7,6 +7,7 @@ use Rattle.trace_writer.proofs.claims.QuietRows.{quiet_none, quiet_both, quiet_t
 use Rattle.trace_writer.proofs.claims.QuietSteps.{quiet_noted}
 use Rattle.trace_writer.proofs.finish.flush.Goals.{in-Between, in-Idle}
 use Rattle.trace_writer.proofs.finish.flush.Goals as goal
+use Rattle.trace_writer.proofs.claims.RouteIds.{route_from}
 
 pub complete-requires-clause-fit : goal.complete-requires-clause-fit
 complete-requires-clause-fit g c =
@@ -19,6 +20,10 @@ complete-requires-clause-head g c =
     behind_head _ _ (g.W.Words.means.view c.args.table.now c.args.seat.now) _ c.in-Between.chunk
     (behind_of (g.W.Words.means.setup c.args.table.now) (g.W.Words.means.place c.args.seat.now) (g.W.Words.means.view c.args.table.now c.args.seat.now) c.args.writer.now c.in-Between.chunk
     (sym c.take_state.ensures.taken ∙ c.in-Between.is) c.requires.agrees)
+
+pub complete-requires-clause-from : goal.complete-requires-clause-from
+complete-requires-clause-from g c =
+    route_from (g.W.Words.means.setup c.args.table.now) (g.W.Words.means.place c.args.seat.now) c.args.writer.now.route c.requires.agrees.route
 
 pub returns-clause-agrees : goal.returns-clause-agrees
 returns-clause-agrees g c = elim c.match-take_state.branch [
@@ -33,7 +38,7 @@ returns-clause-agrees g c = elim c.match-take_state.branch [
       c.requires.agrees
   | in-Idle w ↦
       flush_idle (g.W.Words.means.setup c.args.table.now) (g.W.Words.means.place c.args.seat.now) (g.W.Words.means.view c.args.table.now c.args.seat.now)
-      (g.W.Words.means.view c.note_call.new.self c.note_call.new.seat) c.args.writer.now _ w.in-Idle.next_id
+      (g.W.Words.means.view c.note_call.new.self c.note_call.new.seat) c.args.writer.now _ w.in-Idle.next_position
       (sym c.take_state.ensures.taken ∙ w.in-Idle.is) c.requires.none_begun
       (c.note_call.ensures.view ∙ ap (λ table. notes_call (g.W.Words.means.view table c.match-take_state.seat) Flushed) w.table-is
       ∙ ap (λ seat. notes_call (g.W.Words.means.view c.args.table.now seat) Flushed) w.seat-is)

@@ -3,6 +3,10 @@ use Rattle.commit_body.specs.Patches.{holes_outside}
 use Rattle.trace_writer.specs.Site.{site_of}
 use Rattle.trace_writer.proofs.packets.GivenUp.{closes_none, closes_further, closes_within, ends_given_up, loses_rest, dropped_fits, dropped_head}
 use Rattle.trace_writer.proofs.stream.give_up.Goals as goal
+use Rattle.trace_writer.proofs.claims.RouteIds.{route_from}
+
+pub complete-requires-clause-from : goal.complete-requires-clause-from
+complete-requires-clause-from g c = route_from (g.W.Words.means.setup c.args.table.now) (g.W.Words.means.place c.args.seat.now) c.args.route.now c.requires.route
 
 pub holes-init : goal.holes-init
 holes-init g c =
@@ -12,7 +16,7 @@ holes-init g c =
 pub close_hole-requires-clause-room : goal.close_hole-requires-clause-room
 close_hole-requires-clause-room g c =
     let i = c.holes.invariant in
-    omega (arith, i.room, ap (λ n. holes_outside n c.holes.pending.holes) i.same.id)
+    omega (arith, i.room, ap (λ n. holes_outside n c.holes.pending.holes) i.same.position)
 
 pub close_hole-requires-clause-here : goal.close_hole-requires-clause-here
 close_hole-requires-clause-here g c =

@@ -1,4 +1,4 @@
-use Rattle.std.proofs.Common.{◌+◌, ◌-◌, ◌∙◌, length, vec_len, sym, subst, ap, arith}
+use Rattle.std.proofs.Common.{◌+◌, ◌-◌, ◌∙◌, length, vec_len, sym, subst, ap, arith, ℕ, ◌<◌, refl}
 use Rattle.chunk_plain.specs.Setup.{Setup}
 use Rattle.chunk_plain.specs.Views.{WriterView}
 use Rattle.trace_writer.specs.Site.{site_of}
@@ -7,8 +7,9 @@ use Rattle.trace_writer.specs.Headers.{held_head}
 use Rattle.trace_writer.proofs.claims.Asking.{none_yet, none_again, wins_in_turn, won_counts, lost_counts, gets_chunk, out_after}
 use Rattle.trace_writer.proofs.holding.KeptChunks.{keeps_long}
 use Rattle.trace_writer.proofs.claims.QuietRows.{silent_both}
-use Rattle.trace_writer.proofs.packets.RunOn.{few_inside, next_id, next_id_after, ends_as, held_behind, ended_fits, ended_head, next_first, run_fits, run_follows, goes_on_in, runs_on, cannot_run_on, stopped_holds_none}
+use Rattle.trace_writer.proofs.packets.RunOn.{few_inside, next_position, next_position_after, ends_as, held_behind, ended_fits, ended_head, next_first, run_fits, run_follows, goes_on_in, runs_on, cannot_run_on, stopped_holds_none}
 use Rattle.trace_writer.proofs.stream.run_on_or_drop.Goals as goal
+use Rattle.trace_writer.proofs.claims.RouteIds.{next_id, route_from_now, next_fits}
 
 pub claim_over-requires-clause-few : goal.claim_over-requires-clause-few
 claim_over-requires-clause-few g c =
@@ -18,7 +19,25 @@ claim_over-requires-clause-few g c =
 pub claim_over-requires-clause-id : goal.claim_over-requires-clause-id
 claim_over-requires-clause-id g c =
     let i = c.requires.inside in
-    next_id _ i.packet i.older _ c.args.pending.now c.args.fragment i.inside
+    let setup = g.W.Words.means.setup c.args.table.now in let place = g.W.Words.means.place c.args.seat.now in
+    next_id setup setup place place c.args.route.now (c.args.fragment.held.position + 1) (length (g.W.Words.means.view c.args.table.now c.args.seat.now).begun) c.id_of-id.result c.requires.route refl refl
+    (next_position _ i.packet i.older _ c.args.pending.now c.args.fragment i.inside) c.id_of-id.ensures
+
+pub claim_over-requires-clause-few_begun : goal.claim_over-requires-clause-few_begun
+claim_over-requires-clause-few_begun g c =
+    let i = c.requires.inside in
+    subst (λ (n : ℕ). n < 4294967295) (next_position _ i.packet i.older _ c.args.pending.now c.args.fragment i.inside) (next_fits c.args.fragment c.requires.ids)
+
+pub new-requires-clause-position_fits : goal.new-requires-clause-position_fits
+new-requires-clause-position_fits g c =
+    let i = c.requires.inside in
+    subst (λ (n : ℕ). n < 4294967295) (next_position _ i.packet i.older _ c.args.pending.now c.args.fragment i.inside ∙ sym c.in-Some.ensures.begun.position_is)
+    (next_fits c.args.fragment c.requires.ids)
+
+pub complete-requires-clause-from : goal.complete-requires-clause-from
+complete-requires-clause-from g c =
+    route_from_now (g.W.Words.means.setup c.args.table.now) (g.W.Words.means.setup c.claim_over.new.table) (g.W.Words.means.place c.args.seat.now) (g.W.Words.means.place c.claim_over.new.seat)
+    c.args.route.now c.requires.route c.in-Some.ensures.step.setup_stays c.in-Some.ensures.step.place_stays
 
 pub returns-in_default-clause-flow : goal.returns-in_default-clause-flow
 returns-in_default-clause-flow g c =
@@ -28,7 +47,7 @@ returns-in_default-clause-flow g c =
     let none = none_again setup c.args.route.now old old mid (none_yet old) c.in_default.ensures.lost in let step = c.in_default.ensures.step in let i = c.requires.inside in (
       cannot_run_on setup (g.W.Words.means.setup c.claim_over.new.table) place (g.W.Words.means.place c.claim_over.new.seat) c.args.route.now old mid new
           c.args.pending.now c.give_up.new.pending c.args.fragment step.setup_stays step.place_stays none c.give_up.ensures.stops,
-      next_id_after _ i.packet i.older old mid new c.args.pending.now c.args.fragment i.inside none (keeps_long mid.begun new.begun c.give_up.ensures.quiet.chunks),
+      next_position_after _ i.packet i.older old mid new c.args.pending.now c.args.fragment i.inside none (keeps_long mid.begun new.begun c.give_up.ensures.quiet.chunks),
     )
 
 pub complete-requires-clause-fit : goal.complete-requires-clause-fit
@@ -63,7 +82,7 @@ start_fragment-requires-clause-fit g c =
     (next_first setup place (g.W.Words.means.place c.claim_over.new.seat) c.in-Some.next.chunk route old one two c.args.pending.now c.args.fragment c.end.result c.requires.route
     (wins_in_turn setup route c.in-Some.next.chunk old old one (none_yet old) c.in-Some.ensures.won)
     (ends_as c.args.fragment c.end.result e.held e.bytes e.sealed e.count e.continues) c.in-Some.ensures.step.place_stays c.complete.ensures.view)
-    (record { held = n.held; sealed = n.sealed; at = n.at; count = n.count; continues = n.continues; id = b.id_is; whole = b.whole }))
+    (record { held = n.held; sealed = n.sealed; at = n.at; count = n.count; continues = n.continues; position = b.position_is ∙ sym (next_position site i.packet i.older old c.args.pending.now c.args.fragment i.inside); whole = b.whole }))
 
 pub start_fragment-requires-clause-head : goal.start_fragment-requires-clause-head
 start_fragment-requires-clause-head g c =
@@ -76,7 +95,7 @@ start_fragment-requires-clause-head g c =
     (next_first setup place (g.W.Words.means.place c.claim_over.new.seat) c.in-Some.next.chunk route old one two c.args.pending.now c.args.fragment c.end.result c.requires.route
     (wins_in_turn setup route c.in-Some.next.chunk old old one (none_yet old) c.in-Some.ensures.won)
     (ends_as c.args.fragment c.end.result e.held e.bytes e.sealed e.count e.continues) c.in-Some.ensures.step.place_stays c.complete.ensures.view)
-    (record { held = n.held; sealed = n.sealed; at = n.at; count = n.count; continues = n.continues; id = b.id_is; whole = b.whole })
+    (record { held = n.held; sealed = n.sealed; at = n.at; count = n.count; continues = n.continues; position = b.position_is ∙ sym (next_position site i.packet i.older old c.args.pending.now c.args.fragment i.inside); whole = b.whole })
 
 pub returns-clause-flow : goal.returns-clause-flow
 returns-clause-flow g c =
@@ -91,7 +110,7 @@ returns-clause-flow g c =
     (next_first setup place (g.W.Words.means.place c.claim_over.new.seat) c.in-Some.next.chunk route old one two c.args.pending.now c.args.fragment c.end.result c.requires.route
     (wins_in_turn setup route c.in-Some.next.chunk old old one (none_yet old) c.in-Some.ensures.won) ends c.in-Some.ensures.step.place_stays c.complete.ensures.view)
     ends c.complete.ensures.pending
-    (record { held = n.held; sealed = n.sealed; at = n.at; count = n.count; continues = n.continues; id = b.id_is; whole = b.whole })
+    (record { held = n.held; sealed = n.sealed; at = n.at; count = n.count; continues = n.continues; position = b.position_is ∙ sym (next_position site i.packet i.older old c.args.pending.now c.args.fragment i.inside); whole = b.whole })
     (record { held = s.held; start = s.start; at = s.at; count = s.count; continues = s.continues }) s.view)
 
 pub returns-in_default-clause-round : goal.returns-in_default-clause-round

@@ -4,10 +4,14 @@ use Rattle.chunk_plain.specs.Views.{WriterView}
 use Rattle.trace_writer.specs.Site.{site_of}
 use Rattle.trace_writer.specs.Drafted.{IsFit}
 use Rattle.trace_writer.specs.Headers.{held_head}
-use Rattle.trace_writer.proofs.packets.RunOn.{Starts, next_id, ends_as, held_first, ended_fits, ended_head, next_last, run_fits, run_follows, goes_on_in, runs_on, stopped_holds_none}
+use Rattle.trace_writer.proofs.packets.RunOn.{Starts, next_position, ends_as, held_first, ended_fits, ended_head, next_last, run_fits, run_follows, goes_on_in, runs_on, stopped_holds_none}
 use Rattle.trace_writer.proofs.stops.Stalling.{ends_stuck, stops_stuck, begun_many}
 use Rattle.trace_writer.proofs.claims.Working.{work_before, work_then}
 use Rattle.trace_writer.proofs.stream.run_on_or_stall.Goals as goal
+use Rattle.trace_writer.proofs.claims.RouteIds.{route_from}
+
+pub complete-requires-clause-from : goal.complete-requires-clause-from
+complete-requires-clause-from g c = route_from (g.W.Words.means.setup c.args.table.now) (g.W.Words.means.place c.args.seat.now) c.args.route.now c.requires.route
 
 pub complete-requires-clause-fit : goal.complete-requires-clause-fit
 complete-requires-clause-fit g c =
@@ -27,10 +31,10 @@ complete-requires-clause-head g c =
     ended_head site i.packet i.older old old c.args.pending.now c.args.fragment c.end-chunk.result
     (held_first site i.packet i.older old c.args.pending.now c.args.fragment i.inside) ends
 
-pub claim_asking-requires-clause-id : goal.claim_asking-requires-clause-id
-claim_asking-requires-clause-id g c =
+pub claim_asking-requires-clause-position : goal.claim_asking-requires-clause-position
+claim_asking-requires-clause-position g c =
     let i = c.requires.inside in
-    next_id _ i.packet i.older _ c.args.pending.now c.args.fragment i.inside ∙ sym (begun_many _ _ _ _ _ c.complete.ensures.view)
+    next_position _ i.packet i.older _ c.args.pending.now c.args.fragment i.inside ∙ sym (begun_many _ _ _ _ _ c.complete.ensures.view)
 
 pub start_fragment-requires-clause-fit : goal.start_fragment-requires-clause-fit
 start_fragment-requires-clause-fit g c =
@@ -46,7 +50,7 @@ start_fragment-requires-clause-fit g c =
       at = n.at;
       count = n.count;
       continues = n.continues;
-      id = b.id_is;
+      position = b.position_is;
       whole = b.whole ∙ ap (λ (s : Setup). (spot s c.in-Some.next.chunk).payload_size) c.complete.ensures.quiet.step.setup_stays;
     } in
     let next = next_last setup place c.in-Some.next.chunk route old one two c.args.pending.now c.args.fragment c.end-chunk.result c.requires.route c.in-Some.ensures.won ends c.complete.ensures.view in
@@ -67,7 +71,7 @@ start_fragment-requires-clause-head g c =
       at = n.at;
       count = n.count;
       continues = n.continues;
-      id = b.id_is;
+      position = b.position_is;
       whole = b.whole ∙ ap (λ (s : Setup). (spot s c.in-Some.next.chunk).payload_size) c.complete.ensures.quiet.step.setup_stays;
     } in
     let next = next_last setup place c.in-Some.next.chunk route old one two c.args.pending.now c.args.fragment c.end-chunk.result c.requires.route c.in-Some.ensures.won ends c.complete.ensures.view in
@@ -88,7 +92,7 @@ returns-in-Some-clause-flow g c =
       at = n.at;
       count = n.count;
       continues = n.continues;
-      id = b.id_is;
+      position = b.position_is;
       whole = b.whole ∙ ap (λ (s : Setup). (spot s c.in-Some.next.chunk).payload_size) c.complete.ensures.quiet.step.setup_stays;
     } in
     let next = next_last setup place c.in-Some.next.chunk route old one two c.args.pending.now c.args.fragment c.end-chunk.result c.requires.route c.in-Some.ensures.won ends c.complete.ensures.view in
@@ -119,7 +123,7 @@ returns-in-None-clause-flow g c =
     let none = c.in-None.ensures.none in (
       stops_stuck site old new c.args.pending.now c.complete.new.pending c.args.fragment c.requires.filled
           (ends_stuck setup place route old one new c.args.pending.now c.args.fragment c.end-chunk.result c.requires.stalls ends c.complete.ensures.view none.begun none.calls),
-      next_id site i.packet i.older old c.args.pending.now c.args.fragment i.inside
+      next_position site i.packet i.older old c.args.pending.now c.args.fragment i.inside
           ∙ sym (ap length none.begun ∙ begun_many _ _ _ _ _ c.complete.ensures.view),
     )
 

@@ -7,18 +7,24 @@ use Rattle.trace_writer.specs.Headers.{held_head}
 use Rattle.trace_writer.proofs.claims.Working.{work_then}
 use Rattle.trace_writer.proofs.holding.KeptChunks.{keeps_long}
 use Rattle.trace_writer.proofs.claims.QuietRows.{silent_both}
-use Rattle.trace_writer.proofs.packets.RunOn.{few_inside, next_id, next_id_after, ends_as, held_behind, ended_fits, ended_head, next_first, run_fits, run_follows, goes_on_in, runs_on, cannot_run_on}
+use Rattle.trace_writer.proofs.packets.RunOn.{few_inside, next_position, next_position_after, ends_as, held_behind, ended_fits, ended_head, next_first, run_fits, run_follows, goes_on_in, runs_on, cannot_run_on}
 use Rattle.trace_writer.proofs.stream.run_on_or_try.Goals as goal
+use Rattle.trace_writer.proofs.claims.RouteIds.{route_from_now}
+
+pub complete-requires-clause-from : goal.complete-requires-clause-from
+complete-requires-clause-from g c =
+    route_from_now (g.W.Words.means.setup c.args.table.now) (g.W.Words.means.setup c.claim_trying.new.table) (g.W.Words.means.place c.args.seat.now) (g.W.Words.means.place c.claim_trying.new.seat)
+    c.args.route.now c.requires.route c.claim_trying.ensures.work.others.setup_stays c.claim_trying.ensures.work.others.place_stays
 
 pub claim_trying-requires-clause-few : goal.claim_trying-requires-clause-few
 claim_trying-requires-clause-few g c =
     let i = c.requires.inside in
     few_inside _ i.packet i.older _ c.args.pending.now c.args.fragment i.inside
 
-pub claim_trying-requires-clause-id : goal.claim_trying-requires-clause-id
-claim_trying-requires-clause-id g c =
+pub claim_trying-requires-clause-position : goal.claim_trying-requires-clause-position
+claim_trying-requires-clause-position g c =
     let i = c.requires.inside in
-    next_id _ i.packet i.older _ c.args.pending.now c.args.fragment i.inside
+    next_position _ i.packet i.older _ c.args.pending.now c.args.fragment i.inside
 
 pub returns-in_default-clause-flow : goal.returns-in_default-clause-flow
 returns-in_default-clause-flow g c =
@@ -28,7 +34,7 @@ returns-in_default-clause-flow g c =
     let none = c.in_default.ensures.none in let others = c.in_default.ensures.work.others in let i = c.requires.inside in (
       cannot_run_on setup (g.W.Words.means.setup c.claim_trying.new.table) place (g.W.Words.means.place c.claim_trying.new.seat) c.args.route.now old mid new
           c.args.pending.now c.give_up.new.pending c.args.fragment others.setup_stays others.place_stays none c.give_up.ensures.stops,
-      next_id_after _ i.packet i.older old mid new c.args.pending.now c.args.fragment i.inside none (keeps_long mid.begun new.begun c.give_up.ensures.quiet.chunks),
+      next_position_after _ i.packet i.older old mid new c.args.pending.now c.args.fragment i.inside none (keeps_long mid.begun new.begun c.give_up.ensures.quiet.chunks),
     )
 
 pub complete-requires-clause-fit : goal.complete-requires-clause-fit
@@ -63,7 +69,7 @@ start_fragment-requires-clause-fit g c =
     (next_first setup place (g.W.Words.means.place c.claim_trying.new.seat) c.in-Some.next.chunk route old one two c.args.pending.now c.args.fragment c.end.result c.requires.route
     c.in-Some.ensures.won
     (ends_as c.args.fragment c.end.result e.held e.bytes e.sealed e.count e.continues) c.in-Some.ensures.work.others.place_stays c.complete.ensures.view)
-    (record { held = n.held; sealed = n.sealed; at = n.at; count = n.count; continues = n.continues; id = b.id_is; whole = b.whole }))
+    (record { held = n.held; sealed = n.sealed; at = n.at; count = n.count; continues = n.continues; position = b.position_is; whole = b.whole }))
 
 pub start_fragment-requires-clause-head : goal.start_fragment-requires-clause-head
 start_fragment-requires-clause-head g c =
@@ -76,7 +82,7 @@ start_fragment-requires-clause-head g c =
     (next_first setup place (g.W.Words.means.place c.claim_trying.new.seat) c.in-Some.next.chunk route old one two c.args.pending.now c.args.fragment c.end.result c.requires.route
     c.in-Some.ensures.won
     (ends_as c.args.fragment c.end.result e.held e.bytes e.sealed e.count e.continues) c.in-Some.ensures.work.others.place_stays c.complete.ensures.view)
-    (record { held = n.held; sealed = n.sealed; at = n.at; count = n.count; continues = n.continues; id = b.id_is; whole = b.whole })
+    (record { held = n.held; sealed = n.sealed; at = n.at; count = n.count; continues = n.continues; position = b.position_is; whole = b.whole })
 
 pub returns-clause-flow : goal.returns-clause-flow
 returns-clause-flow g c =
@@ -91,7 +97,7 @@ returns-clause-flow g c =
     (next_first setup place (g.W.Words.means.place c.claim_trying.new.seat) c.in-Some.next.chunk route old one two c.args.pending.now c.args.fragment c.end.result c.requires.route
     c.in-Some.ensures.won ends c.in-Some.ensures.work.others.place_stays c.complete.ensures.view)
     ends c.complete.ensures.pending
-    (record { held = n.held; sealed = n.sealed; at = n.at; count = n.count; continues = n.continues; id = b.id_is; whole = b.whole })
+    (record { held = n.held; sealed = n.sealed; at = n.at; count = n.count; continues = n.continues; position = b.position_is; whole = b.whole })
     (record { held = s.held; start = s.start; at = s.at; count = s.count; continues = s.continues }) s.view)
 
 pub returns-in_default-clause-work : goal.returns-in_default-clause-work

@@ -32,8 +32,8 @@ set_header-requires-clause-follows g c =
     let chunk = c.args.self in let mid = g.W.Words.means.view c.publish.new.self c.publish.new.seat in
     let head = head_stays (g.W.Words.means.setup c.args.table.now) (g.W.Words.means.view c.args.table.now c.args.seat.now) mid chunk chunk.count chunk.at c.requires.fit
     chunk.order chunk.within c.publish.ensures.view in
-    subst (λ (n : ℕ). MayFollow (head_at mid c.publish.new.held.id) (record { count = chunk.count + 1; flags = n })) (sym c.flags_of.ensures.value)
-    (subst (λ (h : Held). MayFollow (head_at mid h.id) (held_head (chunk.count + 1) chunk.continues)) (sym c.publish.ensures.held)
+    subst (λ (n : ℕ). MayFollow (head_at mid c.publish.new.held.position) (record { count = chunk.count + 1; flags = n })) (sym c.flags_of.ensures.value)
+    (subst (λ (h : Held). MayFollow (head_at mid h.position) (held_head (chunk.count + 1) chunk.continues)) (sym c.publish.ensures.held)
     (subst (λ (h : Head). MayFollow h (held_head (chunk.count + 1) chunk.continues)) (sym head) c.requires.head))
 
 pub set_header-requires-clause-reads : goal.set_header-requires-clause-reads
@@ -41,7 +41,7 @@ set_header-requires-clause-reads g c =
     let chunk = c.args.self in let mid = g.W.Words.means.view c.publish.new.self c.publish.new.seat in
     let reads = reads_so (g.W.Words.means.setup c.args.table.now) (g.W.Words.means.view c.args.table.now c.args.seat.now) mid chunk chunk.count chunk.at c.requires.fit
     chunk.order chunk.within c.publish.ensures.view (chunk.count + 1) (omega arith) in
-    subst (λ (h : Held). HasFragments (published mid h.id) (ends_by mid h.id (chunk.count + 1))) (sym c.publish.ensures.held) reads.0
+    subst (λ (h : Held). HasFragments (published mid h.position) (ends_by mid h.position (chunk.count + 1))) (sym c.publish.ensures.held) reads.0
 
 pub set_header-requires-clause-inside : goal.set_header-requires-clause-inside
 set_header-requires-clause-inside g c =
@@ -50,8 +50,8 @@ set_header-requires-clause-inside g c =
     let reads = (reads_so (g.W.Words.means.setup c.args.table.now) (g.W.Words.means.view c.args.table.now c.args.seat.now) mid chunk chunk.count chunk.at fit
     chunk.order chunk.within c.publish.ensures.view (chunk.count + 1) (omega arith)).1 in
     let inside = fit.inside in let within = chunk.within in let size = fit.size in
-    subst (λ (s : Setup). sealed_to (ends_by mid c.publish.new.held.id (chunk.count + 1)) ≤ (spot s c.publish.new.held.chunk).payload_size) (sym c.publish.ensures.step.setup_stays)
-    (subst (λ (h : Held). sealed_to (ends_by mid h.id (chunk.count + 1)) ≤ (spot (g.W.Words.means.setup c.args.table.now) h.chunk).payload_size) (sym c.publish.ensures.held)
+    subst (λ (s : Setup). sealed_to (ends_by mid c.publish.new.held.position (chunk.count + 1)) ≤ (spot s c.publish.new.held.chunk).payload_size) (sym c.publish.ensures.step.setup_stays)
+    (subst (λ (h : Held). sealed_to (ends_by mid h.position (chunk.count + 1)) ≤ (spot (g.W.Words.means.setup c.args.table.now) h.chunk).payload_size) (sym c.publish.ensures.held)
     (omega (arith, reads, inside, within, size)))
 
 pub returns-clause-view : goal.returns-clause-view

@@ -8,10 +8,10 @@ pub returns-in-Writing : goal.returns-in-Writing
 returns-in-Writing g c = λ setup place view agrees. (writing_counts setup place view c.args.self.now.writer c.in-Writing.fragment c.in-Writing.is agrees.writes).completed_is
 
 pub returns-in-Idle : goal.returns-in-Idle
-returns-in-Idle g c = λ setup place view agrees. (idle_counts setup place view c.args.self.now.writer c.in-Idle.next_id c.in-Idle.is agrees.writes).completed_is
+returns-in-Idle g c = λ setup place view agrees. (idle_counts setup place view c.args.self.now.writer c.in-Idle.next_position c.in-Idle.is agrees.writes).completed_is
 
 pub returns-in-Dropping : goal.returns-in-Dropping
-returns-in-Dropping g c = λ setup place view agrees. (dropping_counts setup place view c.args.self.now.writer c.in-Dropping.next_id c.in-Dropping.is agrees.writes).completed_is
+returns-in-Dropping g c = λ setup place view agrees. (dropping_counts setup place view c.args.self.now.writer c.in-Dropping.next_position c.in-Dropping.is agrees.writes).completed_is
 
 pub returns-in-Stalled : goal.returns-in-Stalled
-returns-in-Stalled g c = λ setup place view agrees. (stalled_counts setup place view c.args.self.now.writer c.in-Stalled.next_id c.in-Stalled.is agrees.writes).completed_is
+returns-in-Stalled g c = λ setup place view agrees. (stalled_counts setup place view c.args.self.now.writer c.in-Stalled.next_position c.in-Stalled.is agrees.writes).completed_is
