@@ -17,7 +17,7 @@ index_code =
     code_by (ℕ × FinMap nat_cmp ℕ) (coded× coded_ℕ (map.code coded_ℕ coded_ℕ)) (λ index. (index.capacity, index.places))
     (λ pair. record { capacity = pair.0; places = pair.1 }) (λ _. refl)
 
--- sequence and chunk id as one number: each is below 2 ^ 32
+-- sequence and position of the chunk as one number: each is below 2 ^ 32
 abbrev pub key_of : ℕ → ℕ → ℕ
 key_of sequence chunk_id = sequence * 2 ^ 32 + chunk_id
 
@@ -41,12 +41,12 @@ without_place index sequence chunk_id = record index { places = map.remove index
 abbrev pub with_places : FinMap nat_cmp ℕ → IndexValue → IndexValue
 with_places places index = record index { places = places }
 
--- the sequence's chunks from this id on begin with one that is at this place
+-- the sequence's chunks from this position on begin with one that is at this place
 pub record IsFirstFrom (index : IndexValue) (sequence from chunk_id place : ℕ) : Type 0 where
   pub order : from ≤ chunk_id
   pub there : place_of index sequence chunk_id ≡ Some place
   pub none_before : (other : ℕ) → from ≤ other → other < chunk_id → place_of index sequence other ≡ None
 
--- no chunk of the sequence has this id or one above
+-- no chunk of the sequence has this position or one above
 abbrev pub HasNoneFrom : IndexValue → ℕ → ℕ → Type 0
 HasNoneFrom index sequence from = (other : ℕ) → from ≤ other → other < 2 ^ 32 → place_of index sequence other ≡ None

@@ -10,7 +10,7 @@ use std::alloc::{AllocError, Global};
 use std::marker::Model;
 use trace_base::limits::IDS_AHEAD;
 
-/// A finite map from sequence and chunk id to a place, with room for a fixed number of entries.
+/// A finite map from sequence and position of a chunk to a place, with room for a fixed number of entries.
 #[derive(Drop)]
 pub struct Index {
     capacity: u32,
@@ -130,8 +130,8 @@ impl Index {
         self.used = other.used;
     }
 
-    /// The least chunk id of a sequence at or above this one, with its place. Ids near ahead are tried
-    /// one by one; where none of them is there, all entries are gone over.
+    /// The least position of a sequence at or above this one, with its place. Those near ahead are
+    /// tried one by one; where none of them is there, all entries are gone over.
     pub fn first_from(&self, sequence: u32, chunk_id: u32) -> Option<(u32, u32)>
         ensures found { IfSome result (λ first. IsFirstFrom self.now sequence chunk_id first.0 first.1) }
         ensures none { IfNone result (HasNoneFrom self.now sequence chunk_id) }

@@ -13,7 +13,7 @@ pub struct Entry {
     pub place: u32,
 }
 
-/// Sequence and chunk id as one number.
+/// Sequence and position of the chunk as one number.
 pub fn key_number(sequence: u32, chunk_id: u32) -> u64
     ensures { result ≡ key_of sequence chunk_id }
 {

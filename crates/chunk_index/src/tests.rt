@@ -26,40 +26,43 @@ fn take_out(rt: &impl Abort, index: &mut Index, sequence: u32, chunk_id: u32)
     assert_eq!(rt; index.find(sequence, chunk_id), None);
 }
 
-/// Sixteen chunk ids of sequence 1 whose keys have one home, the tenth last of the 33 that there are.
-fn ids_of_one_home(rt: &impl Abort) -> [u32; 16] {
-    let mut ids = [0; 16];
+/// Sixteen positions in sequence 1 whose keys have one home, the tenth last of the 33 that there are.
+fn positions_of_one_home(rt: &impl Abort) -> [u32; 16] {
+    let mut positions = [0; 16];
     let mut found = 0;
-    for id in 0..2000 {
-        if found < 16 && home_of(key_number(1, id), 16) == 23 {
-            ids[found] = id;
+    for position in 0..2000 {
+        if found < 16 && home_of(key_number(1, position), 16) == 23 {
+            positions[found] = position;
             found += 1;
         }
     }
     assert_eq!(rt; found, 16);
-    ids
+    positions
 }
 
 #[test]
 fn keys_with_one_home_are_kept_apart(rt: HostRuntime) -> Result<(), Fail> {
     let mut index = Index::make(rt.alloc(), 16)?;
-    let ids = ids_of_one_home(&rt);
-    for id in ids {
-        add_new(&rt, &mut index, 1, id, id / 3);
+    let positions = positions_of_one_home(&rt);
+    for position in positions {
+        add_new(&rt, &mut index, 1, position, position / 3);
     }
-    take_out(&rt, &mut index, 1, ids[3]);
-    take_out(&rt, &mut index, 1, ids[7]);
-    for (i, id) in ids.iter().enumerate() {
+    take_out(&rt, &mut index, 1, positions[3]);
+    take_out(&rt, &mut index, 1, positions[7]);
+    for (i, position) in positions.iter().enumerate() {
         let place = if i == 3 || i == 7 {
             None
         } else {
-            Some(*id / 3)
+            Some(*position / 3)
         };
-        assert_eq!(rt; index.find(1, *id), place, "id {id}");
+        assert_eq!(rt; index.find(1, *position), place, "position {position}");
     }
-    assert_eq!(rt; index.first_from(1, ids[7]), Some((ids[8], ids[8] / 3)));
+    assert_eq!(rt;
+        index.first_from(1, positions[7]),
+        Some((positions[8], positions[8] / 3))
+    );
 
-    // Far ahead, at the greatest id and in the greatest sequence.
+    // Far ahead, at the greatest position and in the greatest sequence.
     assert_eq!(rt; index.first_from(1, 5000), None);
     assert_eq!(rt; index.first_from(0, u32::MAX), None);
     add_new(&rt, &mut index, 1, u32::MAX, 9);

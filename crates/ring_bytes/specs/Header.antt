@@ -1,5 +1,5 @@
 -- The header of a part of a ring: 16 bytes, this project's profile. All numbers are little-endian: the payload's length, the
--- sequence and the chunk id, each four bytes; two bytes with the count of fragments and, above its ten bits, the flags, as in
+-- sequence and the chunk's position in it, each four bytes; two bytes with the count of fragments and, above its ten bits, the flags, as in
 -- a chunk's header of the shared memory ABI; and two bytes of the ring's own.
 use Rattle.std.specs.Prelude.{◌≡◌, ℕ, ◌+◌, ◌*◌, ◌/◌, ◌%◌, ◌≤◌, ◌==◌, Bool, false, not, ◌||◌, List, ◌++◌, drop, if◌then◌else◌}
 use Rattle.std.specs.Int.{w16, w32, to_le_bytes, from_le_bytes}

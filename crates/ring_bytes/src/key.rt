@@ -11,6 +11,7 @@ pub struct Place {
 #[derive(Clone, Copy, Debug, PartialEq, Eq)]
 pub struct RecordKey {
     pub sequence: u32,
+    /// The position of the chunk in its sequence.
     pub chunk_id: u32,
     /// Fragments in the payload.
     pub count: u16,

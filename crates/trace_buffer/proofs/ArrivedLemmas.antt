@@ -30,7 +30,7 @@ keeps_arrived number id count = record {
     of_size s true = refl
     of_size s false = refl
 
--- another id stays absent and near
+-- another position stays absent and near
 stays_near : (number id count other : ℕ) (s : Sequence) → ((s.number == number) ≡ true → (id == other) ≡ false) → (has_arrived s other ≡ false) × (is_too_far s other ≡ false) → (has_arrived (arrived_at number id count s) other ≡ false) × (is_too_far (arrived_at number id count s) other ≡ false)
 unfolding arrived_at
 stays_near number id count other s apart near = of (s.number == number) apart

@@ -1,4 +1,4 @@
--- The end of a sequence's ids, by the bits of its two circles.
+-- The end of a sequence's positions, by the bits of its two circles.
 use Rattle.std.proofs.Common.{◌≡◌, ◌≢◌, ℕ, zero, suc, ◌+◌, ◌-◌, ◌<◌, ◌≤◌, ◌==◌, ◌||◌, ⊎_elim, max, Bool, true, false, List, [], ◌∷◌, refl, sym, ap, ◌∙◌, arith, eq-eqb, eqb-true, true≢false}
 use Rattle.std.proofs.lemmas.Bool.{cases_lt, cases_eq}
 use Rattle.std.proofs.Math.Bool.{or-true}
@@ -52,7 +52,7 @@ one_less ahead finals base end clear some no_ahead no_final = record {
   finals_clear = one_clear finals base end some clear.finals_clear no_final;
 }
 
--- so no id from there on is among those
+-- so no position from there on is among those
 arrived_before : (ahead finals : List Bool) (base end : ℕ) → AreClear ahead finals base end → (i : ℕ) → is_among i (arrived_of base ahead) ≡ true → i < end
 arrived_before ahead finals base end clear i is =
     ⊎_elim

@@ -8,7 +8,7 @@ use Rattle.trace_buffer.specs.RowFields.{row_view, IsSequence}
 use Rattle.trace_buffer.specs.declared.row.SequenceRow.TheInside.{Inside}
 use Rattle.trace_buffer.proofs.CircleLemmas.{arrived_below, base_is}
 
--- the id is one of those that have a bit
+-- the position is one of those that have a bit
 pub record IsAhead (a : Inside) (id : ℕ) : Type 0 where
   pub from : a.base ≤ id
   pub to : id < a.base + 1024

@@ -21,6 +21,10 @@ is_lost buffer sequence chunk_id =
     && (has_arrived (sequence_in buffer.sequences sequence) chunk_id
     || is_among chunk_id (sequence_in buffer.sequences sequence).final)
 
+-- the id of the first chunk of a sequence, by which the buffer turns ids that come into positions
+abbrev pub from_in : Buffer → (sequence : ℕ) → ℕ
+from_in buffer sequence = (sequence_in buffer.sequences sequence).from
+
 -- where the record lies
 abbrev pub place_in : Option BufferRecord → Option ℕ
 place_in = option_map (λ (stored : BufferRecord). stored.at)

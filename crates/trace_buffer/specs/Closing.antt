@@ -14,7 +14,7 @@ is_unfinished key = key.partial || key.awaits
 abbrev pub unfinished_of : List Stored → ℕ
 unfinished_of live = count_by (λ (stored : Stored). is_unfinished stored.key) live
 
--- the ids of the sequence of which a part is there
+-- the positions of the sequence of which a part is there
 abbrev pub parts_of : ℕ → List BufferRecord → List ℕ
 parts_of number live =
     map
@@ -25,11 +25,11 @@ parts_of number live =
 abbrev pub finals_of : ℕ → List BufferRecord → List ℕ
 finals_of number live = rising (parts_of number live)
 
--- the ids once that of the record is put in, where it is a part of a chunk of the sequence
+-- the positions once that of the record is put in, where it is a part of a chunk of the sequence
 abbrev pub final_with : ℕ → RecordKey → List ℕ → List ℕ
 final_with number key ids = if (key.sequence == number) && key.partial then with_number key.chunk_id ids else ids
 
--- where the record is such a part, its id is still to come, and not too far ahead
+-- where the record is such a part, its chunk is still to come, and not too far ahead
 abbrev pub IsStillNear : Sequence → RecordKey → Type 0
 IsStillNear state key =
     key.sequence ≡ state.number → key.partial ≡ true

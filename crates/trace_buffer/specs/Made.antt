@@ -7,7 +7,7 @@ use Rattle.trace_buffer.specs.declared.answers.SequenceSpec.{SequenceSpec}
 
 -- a sequence of which nothing has arrived
 abbrev pub sequence_of : SequenceSpec → Sequence
-sequence_of spec = fresh spec.sequence (record_size spec.payload)
+sequence_of spec = fresh spec.sequence (record_size spec.payload) spec.from
 
 -- no two have one number
 abbrev pub AreDistinct : List SequenceSpec → Type 0

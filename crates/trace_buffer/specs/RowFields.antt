@@ -10,6 +10,7 @@ abbrev pub row_view : Inside → Sequence
 row_view row = record {
   number = row.number;
   size = row.size;
+  from = row.from;
   arrived = arrived_of row.base row.ahead.items;
   cursor = record { chunk_id = row.at; passed = row.passed };
   closed = row.closed;
@@ -28,6 +29,6 @@ pub record IsSequence (row : Inside) : Type 0 where
   pub low : row.base ≤ 2 ^ 32
   -- the base hasn't arrived
   pub settled : bit row.ahead.items row.base ≡ false
-  pub small : (id : ℕ) → is_among id (arrived_of row.base row.ahead.items) ≡ true → id < 2 ^ 32
+  pub small : (position : ℕ) → is_among position (arrived_of row.base row.ahead.items) ≡ true → position < 2 ^ 32
   -- nothing is final before the sequence is closed
   pub none : row.closed ≡ false → row.finals.items ≡ replicate IDS_AHEAD false

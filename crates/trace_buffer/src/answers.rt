@@ -14,6 +14,8 @@ pub struct BufferSpec {
 pub struct SequenceSpec {
     pub sequence: u32,
     pub payload: u32,
+    /// The id of its first chunk.
+    pub from: u32,
 }
 
 /// What became of a chunk that arrived.
@@ -39,7 +41,7 @@ pub enum PatchFault {
     BadOffset,
 }
 
-/// A place in a sequence: a chunk, and how many of its fragments come before.
+/// A place in a sequence: a chunk, by its position, and how many of its fragments come before.
 #[derive(Clone, Copy, Debug, PartialEq, Eq)]
 pub struct Cursor {
     pub chunk_id: u64,
@@ -64,7 +66,7 @@ pub enum Passed {
 #[derive(Clone, Copy, Debug, PartialEq, Eq)]
 pub struct SequenceState {
     pub cursor: Cursor,
-    /// The least id that hasn't arrived complete.
+    /// The least position that hasn't arrived complete.
     pub base: u64,
     pub closed: bool,
     /// Something was passed since the last delivery.

@@ -1,4 +1,4 @@
-//! The buffer.
+//! The buffer, in which chunks go by their positions.
 ghost use Rattle.std.specs.Prelude.{◌≡◌, ℕ, ◌+◌, ◌*◌, ◌%◌, ◌^◌, ◌<◌, ◌≤◌, ◌&&◌, true, false, List, length, map, find, is_some, IfOk, IfSome, IfNone, None};
 ghost use Rattle.page_geometry.specs.Sizes.{record_size};
 ghost use Rattle.trace_model.specs.Buffers.{empty_buffer, live_at, made_room, meets};
@@ -17,6 +17,7 @@ ghost use Rattle.trace_buffer.specs.Calls.{with_advance, is_lost, place_in, IsIm
 ghost use Rattle.trace_buffer.specs.BufferFields.{NoPart, IsPartNear};
 
 mod copying;
+mod doors;
 
 use crate::answers::{
     Arrived, BufferCounts, BufferSpec, Cursor, Passed, PatchFault, SequenceSpec, SequenceState,
@@ -104,8 +105,8 @@ impl TraceBuffer {
         })
     }
 
-    /// A complete chunk arrives.
-    pub fn arrive(&mut self, image: &Image<'_>) -> Arrived
+    /// A complete chunk arrives, which is named by its position.
+    fn arrive_placed(&mut self, image: &Image<'_>) -> Arrived
         requires known { is_known self.old.sequences image.now.sequence ≡ true }
         requires open { (sequence_in self.old.sequences image.now.sequence).closed ≡ false }
         requires size { record_size (length image.now.payload.now) ≡ (sequence_in self.old.sequences image.now.sequence).size }
@@ -132,8 +133,8 @@ impl TraceBuffer {
         outcome
     }
 
-    /// The first fragments of a chunk arrive that its writer holds.
-    pub fn arrive_partial(&mut self, image: &Image<'_>) -> Arrived
+    /// The first fragments of a chunk arrive, which is named by its position.
+    fn arrive_partial_placed(&mut self, image: &Image<'_>) -> Arrived
         requires known { is_known self.old.sequences image.now.sequence ≡ true }
         requires open { (sequence_in self.old.sequences image.now.sequence).closed ≡ false }
         requires size { record_size (length image.now.payload.now) ≡ (sequence_in self.old.sequences image.now.sequence).size }
@@ -159,8 +160,8 @@ impl TraceBuffer {
         outcome
     }
 
-    /// Four bytes of a chunk come that its writer left open.
-    pub fn patch(&mut self, sequence: u32, patch: &Patch) -> Result<(), PatchFault>
+    /// Four bytes come of a chunk that is named by its position.
+    fn patch_placed(&mut self, sequence: u32, patch: &Patch) -> Result<(), PatchFault>
         requires { is_known self.old.sequences sequence ≡ true }
         ensures answer { patch_told result ≡ patch_answer self.old sequence (patch_value patch.now) }
         ensures after { self.new ≡ with_patch self.old sequence (patch_value patch.now) }
@@ -278,10 +279,10 @@ impl TraceBuffer {
         ensures { result ≡ place_in (live_at self.now sequence chunk_id) }
     {
         let _room = self.ring.size();
-        let Ok(id) = u32::try_from(chunk_id) else {
+        let Ok(position) = u32::try_from(chunk_id) else {
             return None;
         };
-        find_place(&self.ring, &self.index, &self.rows, sequence, id)
+        find_place(&self.ring, &self.index, &self.rows, sequence, position)
     }
 
     /// What the record of a chunk has, by its place, so that it isn't looked for.

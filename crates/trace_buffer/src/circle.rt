@@ -1,4 +1,4 @@
-//! Bits for as many ids from a base on as may be ahead, as a circle: the bit of an id stands at its
+//! Bits for as many positions from a base on as may be ahead, as a circle: the bit of one stands at its
 //! remainder, so that nothing is moved when the base rises.
 ghost use Rattle.std.specs.Prelude.{◌≡◌, ℕ, ◌+◌, ◌%◌, ◌<◌, ◌≤◌, ◌^◌, max, true, false, length};
 ghost use Rattle.trace_model.specs.Sequences.{above_all, is_among};
@@ -24,7 +24,7 @@ pub fn settle(bits: &mut [bool], base: u64) -> u64
     base
 }
 
-/// One above the last id of either circle, and the base where all bits are clear.
+/// One above the last position of either circle, and the base where all bits are clear.
 pub fn end_of_bits(ahead: &[bool], finals: &[bool], base: u64) -> u64
     requires ahead { length ahead.now ≡ IDS_AHEAD }
     requires finals { length finals.now ≡ IDS_AHEAD }
@@ -46,10 +46,10 @@ pub fn end_of_bits(ahead: &[bool], finals: &[bool], base: u64) -> u64
     end
 }
 
-/// Where the bit of an id stands.
-pub fn place_of(id: u64) -> usize
-    ensures is { result ≡ id % IDS_AHEAD }
+/// Where the bit of a position stands.
+pub fn place_of(position: u64) -> usize
+    ensures is { result ≡ position % IDS_AHEAD }
     ensures within { result < IDS_AHEAD }
 {
-    (id % u64::from(IDS_AHEAD)) as usize
+    (position % u64::from(IDS_AHEAD)) as usize
 }

@@ -9,7 +9,7 @@ ghost use Rattle.trace_buffer.specs.BufferFields.{PlacesOnce};
 use crate::row::SequenceRow;
 use ring_bytes::{RecordKey, Ring};
 
-/// Marks the ids of which a part is there. Answers the count of records that await a patch, raised
+/// Marks the chunks of which a part is there. Answers the count of records that await a patch, raised
 /// by those of the sequence. Both are looked for in all records of the ring, but not where it is
 /// known that there is none.
 pub fn mark_parts(ring: &Ring, row: &mut SequenceRow, unfinished: u32, unpatched: u64) -> u64
@@ -36,7 +36,7 @@ pub fn mark_parts(ring: &Ring, row: &mut SequenceRow, unfinished: u32, unpatched
     unpatched
 }
 
-/// Marks the id of the record, where it is a part of a chunk of the sequence.
+/// Marks the chunk of the record, where it is a part of a chunk of the sequence.
 fn mark_part(row: &mut SequenceRow, key: RecordKey)
     requires closed { row.old.closed ≡ true }
     requires near { IsStillNear row.old key }

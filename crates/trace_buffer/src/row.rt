@@ -1,5 +1,6 @@
 //! What a buffer keeps of one sequence.
 ghost use Rattle.std.specs.Prelude.{◌≡◌, ◌^◌, ◌≤◌, [], true, false, IfOk};
+ghost use Rattle.trace_base.specs.Ids as spec;
 ghost use Rattle.trace_model.specs.Counts.{raised};
 ghost use Rattle.trace_model.specs.Sequences.{fresh, has_arrived, is_among, unread_of, with_number};
 ghost use Rattle.trace_model.specs.Arrivals.{is_too_far, with_arrived};
@@ -16,18 +17,22 @@ use page_geometry::FIRST_CONTINUES;
 use ring_bytes::RecordKey;
 use std::alloc::{AllocError, Global};
 use std::marker::Model;
+use trace_base::ids::position_of;
 use trace_base::limits::IDS_AHEAD;
 use trace_base::policy::FullPolicy;
 
-/// A sequence of a buffer. All ids below `base` arrived complete, and `base` didn't.
+/// A sequence of a buffer. Its chunks go by their positions: all below `base` arrived complete, and
+/// `base` didn't.
 #[derive(Drop)]
 pub struct SequenceRow {
     number: u32,
     size: u32,
+    /// The id of its first chunk.
+    from: u32,
     base: u64,
-    /// Which ids from `base` on arrived complete.
+    /// Which positions from `base` on arrived complete.
     ahead: Vec<bool>,
-    /// Which ids from `base` on had a part there when the sequence was closed.
+    /// Which positions from `base` on had a part there when the sequence was closed.
     finals: Vec<bool>,
     at: u64,
     passed: u16,
@@ -52,14 +57,15 @@ impl Model for SequenceRow {
 }
 
 impl SequenceRow {
-    pub fn make(alloc: Global, number: u32, size: u32) -> Result<SequenceRow, AllocError>
-        ensures { IfOk result (λ row. row ≡ fresh number size) }
+    pub fn make(alloc: Global, number: u32, size: u32, from: u32) -> Result<SequenceRow, AllocError>
+        ensures { IfOk result (λ row. row ≡ fresh number size from) }
     {
         let ahead = vec![in alloc; false; IDS_AHEAD as usize]?;
         let finals = vec![in alloc; false; IDS_AHEAD as usize]?;
         Ok(SequenceRow {
             number,
             size,
+            from,
             base: 0,
             ahead,
             finals,
@@ -86,35 +92,42 @@ impl SequenceRow {
         self.size
     }
 
-    #[tactic(auto, using(crate::proofs::CircleLemmas::arrived_below, crate::proofs::CircleLemmas::arrived_ahead, crate::proofs::CircleLemmas::arrived_beyond))]
-    pub fn has_arrived(&self, id: u64) -> bool
-        ensures { result ≡ has_arrived self.now id }
+    /// The position of the chunk with this id.
+    pub fn position_of(&self, id: u32) -> u32
+        ensures { result ≡ spec.position_of self.now.from id }
     {
-        if id < self.base {
+        position_of(self.from, id)
+    }
+
+    #[tactic(auto, using(crate::proofs::CircleLemmas::arrived_below, crate::proofs::CircleLemmas::arrived_ahead, crate::proofs::CircleLemmas::arrived_beyond))]
+    pub fn has_arrived(&self, position: u64) -> bool
+        ensures { result ≡ has_arrived self.now position }
+    {
+        if position < self.base {
             return true;
         }
-        id - self.base < u64::from(IDS_AHEAD) && self.ahead[place_of(id)]
+        position - self.base < u64::from(IDS_AHEAD) && self.ahead[place_of(position)]
     }
 
     #[tactic(auto, using(crate::proofs::CircleLemmas::base_is))]
-    pub fn is_too_far(&self, id: u32) -> bool
-        ensures { result ≡ is_too_far self.now id }
+    pub fn is_too_far(&self, position: u32) -> bool
+        ensures { result ≡ is_too_far self.now position }
     {
-        u64::from(id) >= self.base + u64::from(IDS_AHEAD)
+        u64::from(position) >= self.base + u64::from(IDS_AHEAD)
     }
 
-    /// Whether a part of the id was there when the sequence was closed.
+    /// Whether a part of the chunk was there when the sequence was closed.
     #[tactic(auto, using(crate::proofs::CircleLemmas::marked_in, crate::proofs::CircleLemmas::final_below, crate::proofs::CircleLemmas::final_beyond))]
-    pub fn is_final(&self, id: u64) -> bool
-        ensures { result ≡ is_among id self.now.final }
+    pub fn is_final(&self, position: u64) -> bool
+        ensures { result ≡ is_among position self.now.final }
     {
-        if id < self.base || id - self.base >= u64::from(IDS_AHEAD) {
+        if position < self.base || position - self.base >= u64::from(IDS_AHEAD) {
             return false;
         }
-        self.finals[place_of(id)]
+        self.finals[place_of(position)]
     }
 
-    /// One above the last id that a reader can meet: the least one that hasn't arrived, and of a closed
+    /// One above the last position that a reader can meet: the least one that hasn't arrived, and of a closed
     /// sequence the last one of which anything ever was there.
     #[tactic(auto, using(crate::proofs::CircleLemmas::base_is))]
     pub fn horizon(&self) -> u64
@@ -127,15 +140,15 @@ impl SequenceRow {
         self.base + 1
     }
 
-    /// Of so many fragments of an id, those that the cursor hasn't passed.
-    pub fn unread_of(&self, id: u32, count: u16) -> u16
-        ensures { result ≡ unread_of self.now id count }
+    /// Of so many fragments of a chunk, those that the cursor hasn't passed.
+    pub fn unread_of(&self, position: u32, count: u16) -> u16
+        ensures { result ≡ unread_of self.now position count }
     {
-        let id = u64::from(id);
-        if id < self.at {
+        let position = u64::from(position);
+        if position < self.at {
             return 0;
         }
-        if id == self.at {
+        if position == self.at {
             return count.saturating_sub(self.passed);
         }
         count
@@ -169,15 +182,15 @@ impl SequenceRow {
     }
 
     /// A chunk with so many fragments has arrived complete.
-    pub fn note_arrived(&mut self, id: u32, count: u16)
+    pub fn note_arrived(&mut self, position: u32, count: u16)
         requires open { self.old.closed ≡ false }
-        requires fresh { has_arrived self.old id ≡ false }
-        requires near { is_too_far self.old id ≡ false }
-        ensures { self.new ≡ with_arrived id count self.old }
+        requires fresh { has_arrived self.old position ≡ false }
+        requires near { is_too_far self.old position ≡ false }
+        ensures { self.new ≡ with_arrived position count self.old }
     {
-        self.ahead[place_of(u64::from(id))] = true;
+        self.ahead[place_of(u64::from(position))] = true;
         self.base = settle(&mut self.ahead, self.base);
-        let cursor = cursor_behind(self.at, self.passed, id, count);
+        let cursor = cursor_behind(self.at, self.passed, position, count);
         self.at = cursor.chunk_id;
         self.passed = cursor.passed;
     }
@@ -201,20 +214,20 @@ impl SequenceRow {
         requires { self.old.closed ≡ false }
         ensures after { self.new ≡ record self.old { closed = true } }
 
-        // No id is final before.
+        // No chunk is final before.
         ensures none { self.old.final ≡ [] }
     {
         self.closed = true;
     }
 
-    /// A part of the id is there as the sequence is closed.
-    pub fn mark_final(&mut self, id: u32)
+    /// A part of the chunk is there as the sequence is closed.
+    pub fn mark_final(&mut self, position: u32)
         requires closed { self.old.closed ≡ true }
-        requires fresh { has_arrived self.old id ≡ false }
-        requires near { is_too_far self.old id ≡ false }
-        ensures { self.new ≡ record self.old { final = with_number id self.old.final } }
+        requires fresh { has_arrived self.old position ≡ false }
+        requires near { is_too_far self.old position ≡ false }
+        ensures { self.new ≡ record self.old { final = with_number position self.old.final } }
     {
-        self.finals[place_of(u64::from(id))] = true;
+        self.finals[place_of(u64::from(position))] = true;
     }
 
     pub fn reset_delivered(&mut self)
@@ -229,6 +242,7 @@ impl SequenceRow {
     {
         self.number = other.number;
         self.size = other.size;
+        self.from = other.from;
         self.base = other.base;
         self.ahead.copy_from_slice(&other.ahead);
         self.finals.copy_from_slice(&other.finals);
@@ -283,13 +297,13 @@ fn starts_in(key: RecordKey, unread: u16) -> u16
 }
 
 /// The cursor once a chunk has arrived complete, which is behind it where all of it was passed.
-fn cursor_behind(at: u64, passed: u16, id: u32, count: u16) -> Cursor
-    ensures { cursor_value result ≡ cursor_behind at passed id count }
+fn cursor_behind(at: u64, passed: u16, position: u32, count: u16) -> Cursor
+    ensures { cursor_value result ≡ cursor_behind at passed position count }
 {
-    let id = u64::from(id);
-    if at == id && count <= passed {
+    let position = u64::from(position);
+    if at == position && count <= passed {
         return Cursor {
-            chunk_id: id + 1,
+            chunk_id: position + 1,
             passed: 0,
         };
     }

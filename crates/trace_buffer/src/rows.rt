@@ -20,7 +20,8 @@ pub fn make_rows(alloc: Global, specs: &[SequenceSpec]) -> Result<Vec<SequenceRo
 {
     let mut rows = Vec::with_capacity(alloc, specs.len())?;
     for spec in specs {
-        rows.push(SequenceRow::make(alloc, spec.sequence, size_of_record(spec.payload))?)?;
+        let size = size_of_record(spec.payload);
+        rows.push(SequenceRow::make(alloc, spec.sequence, size, spec.from)?)?;
     }
     Ok(rows)
 }
@@ -44,7 +45,7 @@ pub fn least_size(sequences: &[SequenceSpec], most: u32) -> u32
 pub fn find_row(rows: &[SequenceRow], number: u32) -> usize
     requires { is_known rows.now number ≡ true }
     ensures within { result < length rows.now }
-    ensures number { (slice_index_or rows.now result (fresh 0 0)).number ≡ number }
+    ensures number { (slice_index_or rows.now result (fresh 0 0 0)).number ≡ number }
 {
     if let Some(first) = rows.first() {
         let near = number.wrapping_sub(first.number()) as usize;
@@ -60,7 +61,7 @@ pub fn find_row(rows: &[SequenceRow], number: u32) -> usize
 fn find_among(rows: &[SequenceRow], number: u32) -> usize
     requires { is_known rows.now number ≡ true }
     ensures within { result < length rows.now }
-    ensures number { (slice_index_or rows.now result (fresh 0 0)).number ≡ number }
+    ensures number { (slice_index_or rows.now result (fresh 0 0 0)).number ≡ number }
 {
     let mut i = 0;
     while rows[i].number() != number {
@@ -108,17 +109,17 @@ pub fn note_discarded(rows: &mut [SequenceRow], key: RecordKey)
     row.discard(key);
 }
 
-pub fn note_arrived(rows: &mut [SequenceRow], number: u32, id: u32, count: u16)
+pub fn note_arrived(rows: &mut [SequenceRow], number: u32, position: u32, count: u16)
     requires known { is_known rows.old number ≡ true }
     requires once { NumbersOnce rows.old }
     requires open { (sequence_in rows.old number).closed ≡ false }
-    requires fresh { has_arrived (sequence_in rows.old number) id ≡ false }
-    requires near { is_too_far (sequence_in rows.old number) id ≡ false }
-    ensures { rows.new ≡ changed_at number (with_arrived id count) rows.old }
+    requires fresh { has_arrived (sequence_in rows.old number) position ≡ false }
+    requires near { is_too_far (sequence_in rows.old number) position ≡ false }
+    ensures { rows.new ≡ changed_at number (with_arrived position count) rows.old }
 {
     let i = find_row(rows, number);
     let row = &mut rows[i];
-    row.note_arrived(id, count);
+    row.note_arrived(position, count);
 }
 
 pub fn advance(rows: &mut [SequenceRow], number: u32, to: Cursor, passed: Passed)

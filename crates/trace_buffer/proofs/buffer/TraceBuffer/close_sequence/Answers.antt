@@ -32,7 +32,7 @@ invariant_of-self c =
     let live : List BufferRecord = map record_of c.self.inside.ring.live in
     let rows = changed_is c.self.inside.rows.items c.find_row-i.result c.args.sequence _ _ (closed_sequence live) c.mark_parts-self-inside.new.row c.self.invariant.parts.once
     (subst (λ (ss : List Sequence). c.find_row-i.result < length ss) c.deref.ensures.value c.find_row-i.ensures.within)
-    (ap (λ (ss : List Sequence). (get_or ss c.find_row-i.result (fresh 0 0)).number) (sym c.deref.ensures.value) ∙ c.find_row-i.ensures.number)
+    (ap (λ (ss : List Sequence). (get_or ss c.find_row-i.result (fresh 0 0 0)).number) (sym c.deref.ensures.value) ∙ c.find_row-i.ensures.number)
     (closed_is live c.index_mut-row.result.now c.close.new.self c.mark_parts-self-inside.new.row c.close.ensures.after c.mark_parts-self-inside.ensures.row ∙ ap (closed_sequence live) c.index_mut-row.ensures.value) in
     record {
       parts = parts_at c.self.inside.ring c.self.inside.index c.self.inside.rows.items _ c.args.sequence (closed_sequence live) (keeps_closed live) c.self.invariant.parts rows;
@@ -46,7 +46,7 @@ returns c =
     let live : List BufferRecord = map record_of c.self.inside.ring.live in
     let rows = changed_is c.self.inside.rows.items c.find_row-i.result c.args.sequence _ _ (closed_sequence live) c.mark_parts-self-inside.new.row c.self.invariant.parts.once
     (subst (λ (ss : List Sequence). c.find_row-i.result < length ss) c.deref.ensures.value c.find_row-i.ensures.within)
-    (ap (λ (ss : List Sequence). (get_or ss c.find_row-i.result (fresh 0 0)).number) (sym c.deref.ensures.value) ∙ c.find_row-i.ensures.number)
+    (ap (λ (ss : List Sequence). (get_or ss c.find_row-i.result (fresh 0 0 0)).number) (sym c.deref.ensures.value) ∙ c.find_row-i.ensures.number)
     (closed_is live c.index_mut-row.result.now c.close.new.self c.mark_parts-self-inside.new.row c.close.ensures.after c.mark_parts-self-inside.ensures.row ∙ ap (closed_sequence live) c.index_mut-row.ensures.value) in
     let number : c.close.new.self.number ≡ c.args.sequence = ap (λ (s : Sequence). s.number) c.close.ensures.after ∙ (ap (λ (s : Sequence). s.number) row ∙ number_of c.self.inside.rows.items c.args.sequence (ap (λ (b : Buffer). is_known b.sequences c.args.sequence) c.self.view_is ∙ c.requires.known)) in
     let count : c.mark_parts-self-inside.result ≡ raised c.self.inside.unpatched (count_by (λ (r : BufferRecord). (r.sequence == c.args.sequence) && r.chunk.awaits) live) =

@@ -13,8 +13,8 @@ returns-in_default c =
 
 pub returns : goal.returns
 returns c =
-    let same : c.in-Ok.id ≡ c.args.chunk_id = c.in-Ok.ensures.1 in
+    let same : c.in-Ok.position ≡ c.args.chunk_id = c.in-Ok.ensures.1 in
     subst (λ (n : ℕ). c.find_place.result ≡ place_in (live_at c.args.self.now c.args.sequence n)) same
     (c.find_place.ensures.place
     ∙ place_told _
-    ∙ sym (ap place_in (live_is c.self.inside.ring c.args.self.now.live c.args.sequence c.in-Ok.id (ap (λ (b : Buffer). b.live) c.self.view_is))))
+    ∙ sym (ap place_in (live_is c.self.inside.ring c.args.self.now.live c.args.sequence c.in-Ok.position (ap (λ (b : Buffer). b.live) c.self.view_is))))

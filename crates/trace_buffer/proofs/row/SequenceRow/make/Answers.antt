@@ -24,4 +24,4 @@ returns c =
     let finals : c.in_ok-finals.finals.items ≡ replicate 1024 false = c.in_ok-finals.ensures.items_if_clones_equal (λ y h. search rules) in
     let arrived : arrived_of 0 c.in_ok-ahead.ahead.items ≡ [] = cleared c.in_ok-ahead.ahead.items 1024 0 ahead in
     let final : marked c.in_ok-finals.finals.items 1024 0 ≡ [] = cleared c.in_ok-finals.finals.items 1024 0 finals in
-    λ i. record (fresh c.args.number c.args.size) { arrived = arrived i; final = final i }
+    λ i. record (fresh c.args.number c.args.size c.args.from) { arrived = arrived i; final = final i }

@@ -22,9 +22,9 @@ small a id seen ok low is i among = small_more id i (arrived_of a.base a.ahead.i
 pub settle-self-inside-requires-clause-small : goal.settle-self-inside-requires-clause-small
 settle-self-inside-requires-clause-small c =
     let a : Inside = c.self.inside in
-    let near = is_ahead a c.args.self.now c.args.id c.self.view_is c.self.invariant c.requires.fresh c.requires.near in
-    small a c.args.id c.deref_mut.result.now c.self.invariant c.ranges.id.fits
-    (more a c.args.id c.place_of.result c.from.result c.deref_mut.result.now c.self.invariant near c.deref_mut.ensures.value c.place_of.ensures.is c.from.ensures)
+    let near = is_ahead a c.args.self.now c.args.position c.self.view_is c.self.invariant c.requires.fresh c.requires.near in
+    small a c.args.position c.deref_mut.result.now c.self.invariant c.ranges.position.fits
+    (more a c.args.position c.place_of.result c.from.result c.deref_mut.result.now c.self.invariant near c.deref_mut.ensures.value c.place_of.ensures.is c.from.ensures)
 
 -- the vector's elements after the two writes
 items_are : (v : Vec Bool Global) (place : ℕ) (bits : List Bool) → length v.items ≡ 1024 → length bits ≡ 1024 → (with_items (with_item v place true) bits).items ≡ bits
@@ -34,34 +34,34 @@ items_are v place bits old new =
 pub invariant_of-self : goal.invariant_of-self
 invariant_of-self c =
     let a : Inside = c.self.inside in
-    let near = is_ahead a c.args.self.now c.args.id c.self.view_is c.self.invariant c.requires.fresh c.requires.near in
+    let near = is_ahead a c.args.self.now c.args.position c.self.view_is c.self.invariant c.requires.fresh c.requires.near in
     let bits : List Bool = c.settle-self-inside.new.bits in
     let base : ℕ = c.settle-self-inside.result in
     let items = items_are a.ahead c.place_of.result bits c.self.invariant.ahead c.settle-self-inside.ensures.len in
     let same : arrived_of base (with_items (with_item a.ahead c.place_of.result true) bits).items ≡ arrived_of a.base c.deref_mut.result.now =
     ap (arrived_of base) items ∙ c.settle-self-inside.ensures.same in
-    let new = more a c.args.id c.place_of.result c.from.result c.deref_mut.result.now c.self.invariant near c.deref_mut.ensures.value c.place_of.ensures.is c.from.ensures in
+    let new = more a c.args.position c.place_of.result c.from.result c.deref_mut.result.now c.self.invariant near c.deref_mut.ensures.value c.place_of.ensures.is c.from.ensures in
     record {
       ahead = ap length items ∙ c.settle-self-inside.ensures.len;
       finals = c.self.invariant.finals;
       low = c.settle-self-inside.ensures.low;
       settled = ap (λ b. bit b base) items ∙ c.settle-self-inside.ensures.settled;
-      small = λ i is. small a c.args.id c.deref_mut.result.now c.self.invariant c.ranges.id.fits new i (ap (is_among i) (sym same) ∙ is);
+      small = λ i is. small a c.args.position c.deref_mut.result.now c.self.invariant c.ranges.position.fits new i (ap (is_among i) (sym same) ∙ is);
       none = c.self.invariant.none;
     }
 
 pub returns : goal.returns
 returns c =
     let a : Inside = c.self.inside in
-    let near = is_ahead a c.args.self.now c.args.id c.self.view_is c.self.invariant c.requires.fresh c.requires.near in
+    let near = is_ahead a c.args.self.now c.args.position c.self.view_is c.self.invariant c.requires.fresh c.requires.near in
     let bits : List Bool = c.settle-self-inside.new.bits in
     let base : ℕ = c.settle-self-inside.result in
     let items = items_are a.ahead c.place_of.result bits c.self.invariant.ahead c.settle-self-inside.ensures.len in
-    let arrived : arrived_of base (with_items (with_item a.ahead c.place_of.result true) bits).items ≡ with_number c.args.id (arrived_of a.base a.ahead.items) =
+    let arrived : arrived_of base (with_items (with_item a.ahead c.place_of.result true) bits).items ≡ with_number c.args.position (arrived_of a.base a.ahead.items) =
     ap (arrived_of base) items ∙ c.settle-self-inside.ensures.same
-    ∙ more a c.args.id c.place_of.result c.from.result c.deref_mut.result.now c.self.invariant near c.deref_mut.ensures.value c.place_of.ensures.is c.from.ensures in
+    ∙ more a c.args.position c.place_of.result c.from.result c.deref_mut.result.now c.self.invariant near c.deref_mut.ensures.value c.place_of.ensures.is c.from.ensures in
     let clear : a.finals.items ≡ replicate 1024 false = c.self.invariant.none (ap (λ (s : Sequence). s.closed) c.self.view_is ∙ c.requires.open) in
     let final : marked a.finals.items 1024 base ≡ marked a.finals.items 1024 a.base =
     cleared a.finals.items 1024 base clear ∙ sym (cleared a.finals.items 1024 a.base clear) in
     (λ i. record (row_view a) { arrived = arrived i; cursor = c.cursor_behind-cursor.ensures i; final = final i })
-    ∙ ap (with_arrived c.args.id c.args.count) c.self.view_is
+    ∙ ap (with_arrived c.args.position c.args.count) c.self.view_is

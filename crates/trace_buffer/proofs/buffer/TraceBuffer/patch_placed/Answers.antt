@@ -19,7 +19,7 @@ use Rattle.trace_buffer.proofs.FindLemmas.{is_found, none_is, kept_found, mapped
 use Rattle.trace_buffer.proofs.PatchedLemmas.{none_with, one_with, none_changes, both_changes, patched_stored, still_there, taken}
 use Rattle.trace_buffer.proofs.PutLemmas.{payload_patched}
 use Rattle.trace_buffer.proofs.UnfinishedLemmas.{one_of, dropped_count, changed_count, awaiting_one, only_of}
-use Rattle.trace_buffer.proofs.buffer.TraceBuffer.patch.Goals as goal
+use Rattle.trace_buffer.proofs.buffer.TraceBuffer.patch_placed.Goals as goal
 
 -- the same records, where none takes the patch
 unchanged_buffer : (v : Buffer) (q : ℕ) (patch : Patch) (live : List BufferRecord) → live ≡ v.live → find (λ (r : BufferRecord). is_of q patch.chunk_id r && (r.chunk.awaits && last_holds r.chunk.fragments patch)) live ≡ None → v ≡ with_patch v q patch

@@ -4,7 +4,7 @@ use Rattle.trace_model.specs.Arrivals.{makes_arrive}
 use Rattle.trace_model.specs.Buffers.{Buffer, BufferRecord, is_of}
 use Rattle.trace_buffer.specs.Answers.{arrived_value}
 use Rattle.trace_buffer.proofs.SettledLemmas.{KeepsRows, settled_rows, known_still, open_still, fresh_still, near_still, there_before, fresh_before, near_before, no_part_after}
-use Rattle.trace_buffer.proofs.buffer.TraceBuffer.arrive.Goals as goal
+use Rattle.trace_buffer.proofs.buffer.TraceBuffer.arrive_placed.Goals as goal
 
 pub settle-requires-clause-rewritten : goal.settle-requires-clause-rewritten
 settle-requires-clause-rewritten c is = there_before c.args.self.now c.args.image.now.sequence c.args.image.now.chunk_id (sym c.complete_outcome-outcome.ensures ∙ is)
