@@ -15,31 +15,31 @@ use Rattle.service_core.specs.Order.{Stage, IsFoundPart, LeadTo}
 use Rattle.service_core.specs.OrderLaws.{HasImages, LeadsAreInOrder}
 
 -- a part that was found is a front of its chunk's image
-scraped : (world : World) (place q id count : ℕ) (images : List Image) → q - 2 ≡ place → IsOwned world → HasImages (writer world place) images
-    → IsFoundPart world.service q id count → IsScraped images world.service q id count
-scraped world place q id count images place_is owned has part =
-    let l = looked (q - 2) id count world.service.looks part.found part.looked in
+scraped : (world : World) (place q position count : ℕ) (images : List Image) → q - 2 ≡ place → IsOwned world → HasImages (writer world place) images
+    → IsFoundPart world.service q position count → IsScraped images world.service q position count
+scraped world place q position count images place_is owned has part =
+    let l = looked (q - 2) position count world.service.looks part.found part.looked in
     let is = owned.looks l.number l.look part.found l.at l.found_is in
-    let at : At (writer world place).begun id is.1.entry =
-    subst (λ (p : ℕ). At (writer world p).begun id is.1.entry) (l.place_is ∙ place_is) (subst (λ (i : ℕ). At (writer world part.found.place).begun i is.1.entry) l.id_is is.1.at) in
+    let at : At (writer world place).begun position is.1.entry =
+    subst (λ (p : ℕ). At (writer world p).begun position is.1.entry) (l.place_is ∙ place_is) (subst (λ (i : ℕ). At (writer world part.found.place).begun i is.1.entry) l.position_is is.1.at) in
     by_entry is.1.entry at l.look.chunk is.0 is.1.has
   where
-    by_entry : (entry : BegunChunk) → At (writer world place).begun id entry → (about : ℕ) → IsFound part.found → StillHas about part.found entry → IsScraped images world.service q id count
+    by_entry : (entry : BegunChunk) → At (writer world place).begun position entry → (about : ℕ) → IsFound part.found → StillHas about part.found entry → IsScraped images world.service q position count
     by_entry (Completed chunk content) at about is has_it = record {
       found = part.found;
       looked = part.looked;
       image = content.image;
-      there = has.completed id chunk content at;
+      there = has.completed position chunk content at;
       front = finds_are_fronts.completed about chunk part.found content is has_it part.some;
     }
     by_entry (Held chunk draft) at about is has_it =
-        let image = has.held id chunk draft at in
+        let image = has.held position chunk draft at in
         record {
           found = part.found;
           looked = part.looked;
           image = image.0;
           there = image.1;
-          front = finds_are_fronts.held about chunk part.found draft image.0 is has_it ((owned.counts place).drafts id chunk draft at) image.2 image.3 part.some;
+          front = finds_are_fronts.held about chunk part.found draft image.0 is has_it ((owned.counts place).drafts position chunk draft at) image.2 image.3 part.some;
         }
 
 -- where no patches are due, none are due
@@ -47,10 +47,10 @@ none_due : (images : List Image) (view : ServiceView) (q come : ℕ) (closed : B
     → InOrder images view q come closed [] notes
 none_due images view q come closed due notes none order = subst (λ (ps : List Patch). InOrder images view q come closed ps notes) none order
 
-pub order_from : (images : List Image) (view : ServiceView) (q : ℕ) → ((id count : ℕ) → IsFoundPart view q id count → IsScraped images view q id count)
+pub order_from : (images : List Image) (view : ServiceView) (q : ℕ) → ((position count : ℕ) → IsFoundPart view q position count → IsScraped images view q position count)
     → (notes : List Noted) (stage last : Stage) → LeadTo view q stage notes last → last.due ≡ [] → InOrder images view q stage.come stage.closed stage.due notes
 order_from images view q parts [] stage last lead none = ap (λ (s : Stage). s.due) lead ∙ none
-order_from images view q parts (Arrive other id ∷ notes) stage last lead none = (
+order_from images view q parts (Arrive other position ∷ notes) stage last lead none = (
   lead.0,
   match_map (other == q) _ _ _ _ lead.1
       (λ h. (
@@ -62,18 +62,18 @@ order_from images view q parts (Arrive other id ∷ notes) stage last lead none 
       ))
       (λ h. none_due images view q stage.come stage.closed stage.due notes lead.0 (order_from images view q parts notes stage last h none)),
 )
-order_from images view q parts (Partial other id count ∷ notes) stage last lead none = (
+order_from images view q parts (Partial other position count ∷ notes) stage last lead none = (
   lead.0,
   match_map (other == q) _ _ _ _ lead.1
       (λ h. (
         h.0,
         h.1,
-        subst (λ (i : ℕ). IsScraped images view q i count) h.1 (parts id count h.2),
+        subst (λ (i : ℕ). IsScraped images view q i count) h.1 (parts position count h.2),
         none_due images view q stage.come stage.closed stage.due notes lead.0 (order_from images view q parts notes stage last h.3 none),
       ))
       (λ h. none_due images view q stage.come stage.closed stage.due notes lead.0 (order_from images view q parts notes stage last h none)),
 )
-order_from images view q parts (Patched other id ∷ notes) stage last lead none =
+order_from images view q parts (Patched other position ∷ notes) stage last lead none =
     match_map (other == q) _ _ _ _ lead
     (λ h. (h.0, h.1, h.2, order_from images view q parts notes (record stage { due = [] }) last h.3 none))
     (λ h. (h.0, none_due images view q stage.come stage.closed stage.due notes h.0 (order_from images view q parts notes stage last h.1 none)))
@@ -90,5 +90,5 @@ order_from images view q parts (Commit at ∷ notes) stage last lead none =
 
 pub leads_are_in_order : LeadsAreInOrder
 leads_are_in_order world place images last owned has lead none =
-    order_from images world.service (place + 2) (λ id count part. scraped world place (place + 2) id count images (let back : place + 2 - 2 ≡ place = omega arith in back) owned has part)
+    order_from images world.service (place + 2) (λ position count part. scraped world place (place + 2) position count images (let back : place + 2 - 2 ≡ place = omega arith in back) owned has part)
     world.service.events (record { come = 0; closed = false; due = [] }) last lead none

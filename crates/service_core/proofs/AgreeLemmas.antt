@@ -45,33 +45,33 @@ no_patches (b ∷ bs) q = ap (λ (x : Buffer). x ∷ buffers_after bs (model.Pat
     step false = refl
 
 -- the patches behind an arrival, noted where there are any
-patches_noted : (view : ServiceView) (q id : ℕ) (content : Content) (patches : List Patch) (bs : List Buffer) → content_at view q id ≡ Some content
-    → content.patches ≡ patches → buffers_after bs (flat_map (happened view) (patched_where patches q id)) ≡ buffers_after bs (model.Patched q patches ∷ [])
-patches_noted view q id content [] bs there is = buffers_none bs ∙ sym (no_patches bs q)
-patches_noted view q id content (patch ∷ patches) bs there is =
+patches_noted : (view : ServiceView) (q position : ℕ) (content : Content) (patches : List Patch) (bs : List Buffer) → content_at view q position ≡ Some content
+    → content.patches ≡ patches → buffers_after bs (flat_map (happened view) (patched_where patches q position)) ≡ buffers_after bs (model.Patched q patches ∷ [])
+patches_noted view q position content [] bs there is = buffers_none bs ∙ sym (no_patches bs q)
+patches_noted view q position content (patch ∷ patches) bs there is =
     ap (λ (es : List model.Event). buffers_after bs (es ++ [])) (ap (patches_of q) there ∙ ap (λ (ps : List Patch). model.Patched q ps ∷ []) is)
 
 -- the events of the notes of one chunk that was taken
-one_taken : (view : ServiceView) (q id : ℕ) (content : Content) (bs : List Buffer) → content_at view q id ≡ Some content
-    → content.image.sequence ≡ q → content.image.chunk_id ≡ id
-    → buffers_after bs (flat_map (happened view) (takings q id (content ∷ [])))
+one_taken : (view : ServiceView) (q position : ℕ) (content : Content) (bs : List Buffer) → content_at view q position ≡ Some content
+    → content.image.sequence ≡ q → content.image.chunk_id ≡ position
+    → buffers_after bs (flat_map (happened view) (takings q position (content ∷ [])))
     ≡ buffers_after (buffers_after bs (arrivals_of content.image)) (model.Patched q content.patches ∷ [])
-one_taken view q id content bs there sequence_is id_is =
-    let behind : List Noted = patched_where content.patches q id in
-    let arrives : happened view (Arrive q id) ≡ arrivals_of content.image =
-    ap (arrival_of q id) there
-    ∙ ap (λ (s : ℕ). once_read (λ chunk. model.Arrives s id chunk) content.image.flags (reading_of content.image.count content.image.payload)) (sym sequence_is)
-    ∙ ap (λ (i : ℕ). once_read (λ chunk. model.Arrives content.image.sequence i chunk) content.image.flags (reading_of content.image.count content.image.payload)) (sym id_is) in
-    ap (λ (ns : List Noted). buffers_after bs (happened view (Arrive q id) ++ flat_map (happened view) ns)) (append-nil behind)
+one_taken view q position content bs there sequence_is position_is =
+    let behind : List Noted = patched_where content.patches q position in
+    let arrives : happened view (Arrive q position) ≡ arrivals_of content.image =
+    ap (arrival_of q position) there
+    ∙ ap (λ (s : ℕ). once_read (λ chunk. model.Arrives s position chunk) content.image.flags (reading_of content.image.count content.image.payload)) (sym sequence_is)
+    ∙ ap (λ (i : ℕ). once_read (λ chunk. model.Arrives content.image.sequence i chunk) content.image.flags (reading_of content.image.count content.image.payload)) (sym position_is) in
+    ap (λ (ns : List Noted). buffers_after bs (happened view (Arrive q position) ++ flat_map (happened view) ns)) (append-nil behind)
     ∙ ap (λ (es : List model.Event). buffers_after bs (es ++ flat_map (happened view) behind)) arrives
     ∙ buffers_append bs (arrivals_of content.image) (flat_map (happened view) behind)
-    ∙ patches_noted view q id content content.patches (buffers_after bs (arrivals_of content.image)) there refl
+    ∙ patches_noted view q position content content.patches (buffers_after bs (arrivals_of content.image)) there refl
 
 -- the notes of one chunk that was taken are known
-one_known : (view : ServiceView) (q id : ℕ) (content : Content) → content_at view q id ≡ Some content → AreKnownNotes view (takings q id (content ∷ []))
-one_known view q id content there = ((content, there), known_append view (patched_where content.patches q id) [] (by_patches content.patches) tt)
+one_known : (view : ServiceView) (q position : ℕ) (content : Content) → content_at view q position ≡ Some content → AreKnownNotes view (takings q position (content ∷ []))
+one_known view q position content there = ((content, there), known_append view (patched_where content.patches q position) [] (by_patches content.patches) tt)
   where
-    by_patches : (patches : List Patch) → AreKnownNotes view (patched_where patches q id)
+    by_patches : (patches : List Patch) → AreKnownNotes view (patched_where patches q position)
     by_patches [] = tt
     by_patches (patch ∷ patches) = ((content, there), tt)
 
@@ -86,15 +86,15 @@ pub order_here : (old new : ServiceView) (place : ℕ) (content : Content) (was 
     → LeadTo old (place + 2) beginning old.events (record { come = (taken_of old place).count; closed = was; due = [] })
     → LeadTo new (place + 2) beginning new.events (record { come = (taken_of new place).count; closed = is; due = [] })
 order_here old new place content was is grows known there events_are counted open_before open_after lead =
-    let id : ℕ = (taken_of old place).count in
+    let position : ℕ = (taken_of old place).count in
     let q : ℕ = place + 2 in
-    let before = subst (λ (b : Bool). LeadTo new q beginning old.events (record { come = id; closed = b; due = [] })) open_before
-    (lead_grows old new q beginning (record { come = id; closed = was; due = [] }) old.events grows known lead) in
-    let both = lead_both new q beginning (record { come = id; closed = false; due = [] }) (record { come = suc id; closed = false; due = [] }) old.events (takings q id (content ∷ [])) before (lead_taken new q id content there) in
-    let count : suc id ≡ (taken_of new place).count = omega (arith, counted) in
+    let before = subst (λ (b : Bool). LeadTo new q beginning old.events (record { come = position; closed = b; due = [] })) open_before
+    (lead_grows old new q beginning (record { come = position; closed = was; due = [] }) old.events grows known lead) in
+    let both = lead_both new q beginning (record { come = position; closed = false; due = [] }) (record { come = suc position; closed = false; due = [] }) old.events (takings q position (content ∷ [])) before (lead_taken new q position content there) in
+    let count : suc position ≡ (taken_of new place).count = omega (arith, counted) in
     subst (λ (b : Bool). LeadTo new q beginning new.events (record { come = (taken_of new place).count; closed = b; due = [] })) (sym open_after)
     (subst (λ (n : ℕ). LeadTo new q beginning new.events (record { come = n; closed = false; due = [] })) count
-    (subst (λ (es : List Noted). LeadTo new q beginning es (record { come = suc id; closed = false; due = [] })) (sym events_are) both))
+    (subst (λ (es : List Noted). LeadTo new q beginning es (record { come = suc position; closed = false; due = [] })) (sym events_are) both))
 
 -- and with those of another writer, or of none
 pub order_there : (old new : ServiceView) (place : ℕ) (notes : List Noted) (was is : Bool) → Grows old new → AreKnownNotes old old.events
@@ -146,16 +146,16 @@ pub agrees_took : {S : Type 0} → (setup : Setup) (old : ServiceView) (core don
     → done.buffers.items ≡ buffers_after (buffers_after core.buffers.items (arrivals_of content.image)) (model.Patched (place + 2) content.patches ∷ [])
     → done.taken.items ≡ set core.taken.items place ((taken_of old place).count + 1)
     → ServiceAgrees setup (took old place looks (content ∷ [])) done
-agrees_took setup old core done place looks content agrees keeps inside open_here level sequence_is id_is buffers_are taken_is =
+agrees_took setup old core done place looks content agrees keeps inside open_here level sequence_is position_is buffers_are taken_is =
     let new : ServiceView = took old place looks (content ∷ []) in
-    let id : ℕ = (taken_of old place).count in
+    let position : ℕ = (taken_of old place).count in
     let there = last_content old place looks content inside level in
-    agrees_grown setup old new core done (takings (place + 2) id (content ∷ [])) agrees keeps (took_grows old place looks (content ∷ []) inside) refl refl
+    agrees_grown setup old new core done (takings (place + 2) position (content ∷ [])) agrees keeps (took_grows old place looks (content ∷ []) inside) refl refl
     (length-set old.taken place (taken_more (taken_of old place) (content ∷ [])))
-    (taken_is ∙ ap (λ (counts : List ℕ). set counts place (id + 1)) agrees.taken
+    (taken_is ∙ ap (λ (counts : List ℕ). set counts place (position + 1)) agrees.taken
     ∙ sym (map-set (λ (t : Taken). t.count) old.taken place (taken_more (taken_of old place) (content ∷ []))))
-    (buffers_are ∙ sym (one_taken new (place + 2) id content core.buffers.items there sequence_is id_is))
-    (one_known new (place + 2) id content there)
+    (buffers_are ∙ sym (one_taken new (place + 2) position content core.buffers.items there sequence_is position_is))
+    (one_known new (place + 2) position content there)
     (λ p inside_p none. by_place p inside_p none (cases_eq p place))
   where
     stays : (p : ℕ) → p < length setup.writers → is_closed setup done p ≡ is_closed setup core p

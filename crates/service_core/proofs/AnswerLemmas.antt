@@ -6,11 +6,11 @@ use Rattle.chunk_plain.specs.Views.{Content, Noted, Taken, none_taken, ServiceVi
 use Rattle.service_core.specs.Taking.{patched_where, takings, taken_more, took, Takes}
 
 -- each chunk that was taken is noted
-takings_long : (sequence id : ℕ) (contents : List Content) → length contents ≤ length (takings sequence id contents)
-takings_long sequence id [] = omega arith
-takings_long sequence id (content ∷ contents) =
-    let rest = takings_long sequence (suc id) contents in
-    let long = length-append (patched_where content.patches sequence id) (takings sequence (suc id) contents) in
+takings_long : (sequence position : ℕ) (contents : List Content) → length contents ≤ length (takings sequence position contents)
+takings_long sequence position [] = omega arith
+takings_long sequence position (content ∷ contents) =
+    let rest = takings_long sequence (suc position) contents in
+    let long = length-append (patched_where content.patches sequence position) (takings sequence (suc position) contents) in
     omega (arith, rest, long)
 
 -- at least as many notes more as chunks were taken

@@ -13,12 +13,12 @@ use Rattle.trace_model.specs.Delivery.{Delivered, trace_of}
 use Rattle.trace_model.specs.Reads.{delivered_by, with_read}
 use Rattle.trace_model.specs.History as model
 use Rattle.trace_model.specs.History.{Event, buffers_after, record_in, records_at, records_after, reads_of}
-use Rattle.chunk_plain.specs.Setup.{Setup}
+use Rattle.chunk_plain.specs.Setup.{Setup, no_writer}
 use Rattle.chunk_plain.specs.Views.{Noted, Read, ServiceView}
 use Rattle.chunk_plain.specs.Histories.{happened, history_of}
 use Rattle.service_core.specs.declared.service.ServiceCore.{ServiceCore}
 use Rattle.service_core.specs.Routing.{buffer_at, IsAt}
-use Rattle.service_core.specs.Agreement.{AreKnownNotes, ServiceAgrees, first_of, spec_at, no_writer, buffer_of}
+use Rattle.service_core.specs.Agreement.{AreKnownNotes, ServiceAgrees, first_of, spec_at, buffer_of}
 use Rattle.service_core.specs.Reading.{sequences_to, reads_in, noted_read, NotesReads, ReadsAll, FailsIn, FailsAmong, ReadsOne, FailsOne, ReadsSome}
 use Rattle.service_core.specs.Taking.{noted_more}
 use Rattle.service_core.proofs.HistoryLemmas.{history_stays}

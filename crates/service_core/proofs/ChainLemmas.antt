@@ -4,9 +4,9 @@ use Rattle.std.specs.Prelude.{cond, ◌==◌}
 use Rattle.std.proofs.lemmas.List.{set-set, set-get_or, take_more}
 use Rattle.std.proofs.lemmas.Bool.{eq-eqb, ne_eqb}
 use Rattle.trace_base.specs.declared.policy.WriterSpec.{WriterSpec}
-use Rattle.chunk_plain.specs.Setup.{Setup, range_of, producer_of}
+use Rattle.chunk_plain.specs.Setup.{Setup, range_of, producer_of, no_writer}
 use Rattle.chunk_plain.specs.Views.{Content, Look, Taken, none_taken, Noted, Arrive, ServiceView, taken_of}
-use Rattle.service_core.specs.Agreement.{spec_at, no_writer}
+use Rattle.service_core.specs.Agreement.{spec_at}
 use Rattle.service_core.specs.Looking.{looked}
 use Rattle.service_core.specs.Taking.{patched_where, takings, taken_more, took, IsOther, ShowsOther, TakesOf, Takes, places_of, TakesNext, SeesNone, SeesNoneOf, TakesSome}
 use Rattle.service_core.proofs.LookLemmas.{shows_right}
@@ -24,13 +24,13 @@ takes_behind setup place first last old mid new seen next = record {
 
 -- Chunks of one writer
 
-takings_more : (q id : ℕ) (xs ys : List Content) → takings q id (xs ++ ys) ≡ takings q id xs ++ takings q (id + length xs) ys
-takings_more q id [] ys = ap (λ (i : ℕ). takings q i ys) (let same : id ≡ id + 0 = omega arith in same)
-takings_more q id (x ∷ xs) ys =
-    let behind : List Noted = patched_where x.patches q id in
-    let later : suc id + length xs ≡ id + suc (length xs) = omega arith in
-    ap (λ (ns : List Noted). Arrive q id ∷ (behind ++ ns)) (takings_more q (suc id) xs ys ∙ ap (λ (i : ℕ). takings q (suc id) xs ++ takings q i ys) later)
-    ∙ ap (λ (ns : List Noted). Arrive q id ∷ ns) (sym (append_assoc behind (takings q (suc id) xs) (takings q (id + suc (length xs)) ys)))
+takings_more : (q position : ℕ) (xs ys : List Content) → takings q position (xs ++ ys) ≡ takings q position xs ++ takings q (position + length xs) ys
+takings_more q position [] ys = ap (λ (i : ℕ). takings q i ys) (let same : position ≡ position + 0 = omega arith in same)
+takings_more q position (x ∷ xs) ys =
+    let behind : List Noted = patched_where x.patches q position in
+    let later : suc position + length xs ≡ position + suc (length xs) = omega arith in
+    ap (λ (ns : List Noted). Arrive q position ∷ (behind ++ ns)) (takings_more q (suc position) xs ys ∙ ap (λ (i : ℕ). takings q (suc position) xs ++ takings q i ys) later)
+    ∙ ap (λ (ns : List Noted). Arrive q position ∷ ns) (sym (append_assoc behind (takings q (suc position) xs) (takings q (position + suc (length xs)) ys)))
 
 pub took_none : (view : ServiceView) (place : ℕ) → view ≡ took view place [] []
 took_none view place =

@@ -16,6 +16,7 @@ use mathlib.Core.Logic.{dite}
 use Rattle.chunk_plain.proofs.Lists.{at_some}
 use Rattle.trace_base.specs.declared.limits.TheConstants.{MAX_FRAGMENTS}
 use Rattle.trace_base.specs.declared.policy.WriterSpec.{WriterSpec}
+use Rattle.trace_base.proofs.IdLemmas.{same_position}
 use Rattle.page_geometry.specs.declared.chunk_header.TheConstants.{MAX_FLAGS}
 use Rattle.page_geometry.specs.declared.chunk_header.ChunkHeader.{ChunkHeader}
 use Rattle.page_geometry.specs.declared.chunk_state.ChunkState.TheVariants.{BeingWritten}
@@ -23,7 +24,7 @@ use Rattle.page_geometry.specs.PageBits.{HasState}
 use Rattle.page_geometry.specs.Header.{packed}
 use Rattle.page_geometry.proofs.HeaderLemmas.{unpacked-packed}
 use Rattle.chunk_plain.specs.declared.tokens.Seen.{Seen}
-use Rattle.chunk_plain.specs.Setup.{Setup, spot, range_of, producer_of, IsChunkOf}
+use Rattle.chunk_plain.specs.Setup.{Setup, spot, range_of, producer_of, IsChunkOf, from_of, id_at}
 use Rattle.chunk_plain.specs.Views.{At, Draft, no_draft, BegunChunk, Held, Completed, WriterView, newcomer, Noted, Partial, ServiceView, Taken, none_taken, taken_of}
 use Rattle.chunk_plain.specs.World.{World, Status, Writing, status, writer}
 use Rattle.chunk_plain.specs.Steps.{serviced}
@@ -63,26 +64,27 @@ past_get [] d i past = refl
 past_get (x ∷ xs) d zero past = absurd (omega (arith, past))
 past_get (x ∷ xs) d (suc i) past = past_get xs d i (omega (arith, past))
 
-header_is : (setup : Setup) (header : ChunkHeader) (place id : ℕ) (draft : Draft) → HasRanges header → IsHeader setup (packed header) place id draft.head
-    → header ≡ record { chunk_id = id; writer_id = place + 1; count = draft.head.count; flags = draft.head.flags }
-header_is setup header place id draft ranges is =
-    sym (unpacked-packed header ranges.word.id ranges.word.writer ranges.count ranges.flags) ∙ header_reads setup (packed header) place id draft.head is
+header_is : (setup : Setup) (header : ChunkHeader) (place position : ℕ) (draft : Draft) → HasRanges header → IsHeader setup (packed header) place position draft.head
+    → header ≡ record { chunk_id = id_at setup place position; writer_id = place + 1; count = draft.head.count; flags = draft.head.flags }
+header_is setup header place position draft ranges is =
+    sym (unpacked-packed header ranges.word.id ranges.word.writer ranges.count ranges.flags) ∙ header_reads setup (packed header) place position draft.head is
 
 lt_is : (m n : ℕ) → nat_lt m n ≡ true → m < n
 lt_is m n test = grind (arith, nat_tests)
 
-entry_notes : (place id finished chunk : ℕ) (draft : Draft) → draft.head.count ≡ finished + 1 → 1 ≤ finished
-    → part_of_entry place id (Held chunk draft) ≡ Partial (place + 2) id finished ∷ []
-entry_notes place id finished chunk draft count some =
-    ap (λ (b : Bool). cond b (Partial (place + 2) id (draft.head.count - 1) ∷ []) []) (lt-ltb 1 draft.head.count (omega (arith, count, some)))
-    ∙ ap (λ (n : ℕ). Partial (place + 2) id n ∷ []) (let one : draft.head.count - 1 ≡ finished = omega (arith, count) in one)
+entry_notes : (place position finished chunk : ℕ) (draft : Draft) → draft.head.count ≡ finished + 1 → 1 ≤ finished
+    → part_of_entry place position (Held chunk draft) ≡ Partial (place + 2) position finished ∷ []
+entry_notes place position finished chunk draft count some =
+    ap (λ (b : Bool). cond b (Partial (place + 2) position (draft.head.count - 1) ∷ []) []) (lt-ltb 1 draft.head.count (omega (arith, count, some)))
+    ∙ ap (λ (n : ℕ). Partial (place + 2) position n ∷ []) (let one : draft.head.count - 1 ≡ finished = omega (arith, count) in one)
 
 -- what a look found of the writer's next chunk is what it holds
-pub part_is : (setup : Setup) (world : World) (place chunk at writer_id id finished : ℕ) (seen : Seen) → ∥ IsOwned world ∥₁
+pub part_is : (setup : Setup) (world : World) (place chunk at writer_id id position finished : ℕ) (seen : Seen) → ∥ IsOwned world ∥₁
     → ∥ (ShowsPage setup world (spot setup chunk) seen.word.0 (status world chunk) × ShowsHeader setup (packed seen.header) (status world chunk)) ∥₁
-    → at ≡ (spot setup chunk).place → writer_id ≡ place + 1 → IsPart seen at writer_id id finished → id ≡ (taken_of world.service place).count → HasRanges seen.header
-    → part_held world place ≡ Partial (place + 2) id finished ∷ []
-part_is setup world place chunk at writer_id id finished seen owned shown at_is writer_is part next ranges =
+    → at ≡ (spot setup chunk).place → writer_id ≡ place + 1 → id ≡ id_at setup place position → position < 2 ^ 32 → IsPart seen at writer_id id finished
+    → position ≡ (taken_of world.service place).count → HasRanges seen.header
+    → part_held world place ≡ Partial (place + 2) position finished ∷ []
+part_is setup world place chunk at writer_id id position finished seen owned shown at_is writer_is id_is small part next ranges =
     ∥∥₁_elim owned (noted_set _ _) (λ o. ∥∥₁_elim shown (noted_set _ _) (λ s.
     let was = writing_status (status world chunk) seen.word.0 (spot setup chunk).place s.0.state (subst (λ (p : ℕ). HasState seen.word.0 p BeingWritten) at_is part.written) in
     let is : IsHeader setup (packed seen.header) was.0 was.1 was.2.head = subst (λ (t : Status). ShowsHeader setup (packed seen.header) t) was.3 s.1 in
@@ -90,25 +92,27 @@ part_is setup world place chunk at writer_id id finished seen owned shown at_is 
     let named = part.writer_is in
     let number = ap (λ (h : ChunkHeader). h.writer_id) reads in
     let place_is : was.0 ≡ place = omega (arith, number, named, writer_is) in
-    let id_is : was.1 ≡ id = sym (ap (λ (h : ChunkHeader). h.chunk_id) reads) ∙ part.id_is in
+    let same : id_at setup place was.1 ≡ id_at setup place position =
+    ap (λ (p : ℕ). id_at setup p was.1) (sym place_is) ∙ sym (ap (λ (h : ChunkHeader). h.chunk_id) reads) ∙ part.id_is ∙ id_is in
+    let position_is : was.1 ≡ position = same_position (from_of setup place) was.1 position is.position_fits small same in
     let count : was.2.head.count ≡ finished + 1 = sym (ap (λ (h : ChunkHeader). h.count) reads) ∙ part.count in
     let begun = (o.owns was.0 chunk).writing_is was.1 was.2 was.3 in
-    let here : At (writer world place).begun id (Held chunk was.2) =
-    subst (λ (i : ℕ). At (writer world place).begun i (Held chunk was.2)) id_is (subst (λ (p : ℕ). At (writer world p).begun was.1 (Held chunk was.2)) place_is begun) in
+    let here : At (writer world place).begun position (Held chunk was.2) =
+    subst (λ (i : ℕ). At (writer world place).begun i (Held chunk was.2)) position_is (subst (λ (p : ℕ). At (writer world p).begun was.1 (Held chunk was.2)) place_is begun) in
     ap (λ (n : ℕ). part_of_entry place n (get_or (writer world place).begun n (Held 0 no_draft))) (sym next)
-    ∙ ap (part_of_entry place id) (at_get (writer world place).begun (Held chunk was.2) (Held 0 no_draft) id here) ∙ entry_notes place id finished chunk was.2 count part.some))
+    ∙ ap (part_of_entry place position) (at_get (writer world place).begun (Held chunk was.2) (Held 0 no_draft) position here) ∙ entry_notes place position finished chunk was.2 count part.some))
 
 -- where the look found no part, the writer holds none there
-pub isnt_part : (setup : Setup) (world : World) (place chunk at writer_id id : ℕ) (seen : Seen)
+pub isnt_part : (setup : Setup) (world : World) (place chunk at writer_id id position : ℕ) (seen : Seen)
     → ∥ (ShowsPage setup world (spot setup chunk) seen.word.0 (status world chunk) × ShowsHeader setup (packed seen.header) (status world chunk)) ∥₁
-    → at ≡ (spot setup chunk).place → writer_id ≡ place + 1 → HasRanges seen.header
-    → (HasState seen.word.0 at BeingWritten → seen.header.writer_id ≡ writer_id → seen.header.chunk_id ≡ id → seen.header.count < 2) → IsntPart place id (status world chunk)
-isnt_part setup world place chunk at writer_id id seen shown at_is writer_is ranges none draft writing =
+    → at ≡ (spot setup chunk).place → writer_id ≡ place + 1 → id ≡ id_at setup place position → HasRanges seen.header
+    → (HasState seen.word.0 at BeingWritten → seen.header.writer_id ≡ writer_id → seen.header.chunk_id ≡ id → seen.header.count < 2) → IsntPart place position (status world chunk)
+isnt_part setup world place chunk at writer_id id position seen shown at_is writer_is id_is ranges none draft writing =
     ∥∥₁_elim shown (hlevel le_prop) (λ s.
-    let page : ShowsPage setup world (spot setup chunk) seen.word.0 (Writing place id draft) = subst (λ (t : Status). ShowsPage setup world (spot setup chunk) seen.word.0 t) writing s.0 in
-    let is : IsHeader setup (packed seen.header) place id draft.head = subst (λ (t : Status). ShowsHeader setup (packed seen.header) t) writing s.1 in
-    let reads = header_is setup seen.header place id draft ranges is in
-    let low = none (subst (λ (p : ℕ). HasState seen.word.0 p BeingWritten) (sym at_is) page.state) (ap (λ (h : ChunkHeader). h.writer_id) reads ∙ sym writer_is) (ap (λ (h : ChunkHeader). h.chunk_id) reads) in
+    let page : ShowsPage setup world (spot setup chunk) seen.word.0 (Writing place position draft) = subst (λ (t : Status). ShowsPage setup world (spot setup chunk) seen.word.0 t) writing s.0 in
+    let is : IsHeader setup (packed seen.header) place position draft.head = subst (λ (t : Status). ShowsHeader setup (packed seen.header) t) writing s.1 in
+    let reads = header_is setup seen.header place position draft ranges is in
+    let low = none (subst (λ (p : ℕ). HasState seen.word.0 p BeingWritten) (sym at_is) page.state) (ap (λ (h : ChunkHeader). h.writer_id) reads ∙ sym writer_is) (ap (λ (h : ChunkHeader). h.chunk_id) reads ∙ sym id_is) in
     let count = ap (λ (h : ChunkHeader). h.count) reads in
     omega (arith, low, count))
 
@@ -155,10 +159,10 @@ parts_same world next (place ∷ places) writers taken =
 -- Behind looks
 
 -- a part was noted behind looks that found none
-pub notes_behind : (place id first chunk : ℕ) (old : World) (mid told : Option World) (start before view : ServiceView) → FindsNoPartOf place id first chunk old mid before
+pub notes_behind : (place position first chunk : ℕ) (old : World) (mid told : Option World) (start before view : ServiceView) → FindsNoPartOf place position first chunk old mid before
     → before.events ≡ start.events → before.taken ≡ old.service.taken
     → ((world : World) → mid ≡ Some world → NotesPart place world told before view) → NotesPart place old told start view
-notes_behind place id first chunk old mid told start before view none events taken more =
+notes_behind place position first chunk old mid told start before view none events taken more =
     let note = more (serviced old before) none.told_is in
     record {
       told_is = note.told_is;
@@ -205,7 +209,7 @@ world_skip setup producer taken writers more old before told view places yet = r
 
 -- what the writer holds stays where the writers' views do
 own_stays : (setup : Setup) (place : ℕ) (old new : World) → new.writers ≡ old.writers → HoldsOwn setup place old → HoldsOwn setup place new
-own_stays setup place old new writers own = subst (λ (l : List WriterView). (id chunk : ℕ) (draft : Draft) → At (get_or l place newcomer).begun id (Held chunk draft) → IsChunkOf setup (producer_of setup place) chunk) (sym writers) own
+own_stays setup place old new writers own = subst (λ (l : List WriterView). (position chunk : ℕ) (draft : Draft) → At (get_or l place newcomer).begun position (Held chunk draft) → IsChunkOf setup (producer_of setup place) chunk) (sym writers) own
 
 pub world_add : (setup : Setup) (producer taken place : ℕ) (writers more : List WriterSpec) (old : World) (before mid_view view : ServiceView) (mid told : Option World)
     → places_of producer 0 more ≡ places_of producer 0 writers ++ place ∷ [] → ScrapesWorldYet setup producer taken writers old before mid mid_view → HoldsOwn setup place old

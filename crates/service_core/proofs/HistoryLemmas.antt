@@ -9,8 +9,8 @@ use Rattle.service_core.specs.Agreement.{IsKnownNote, AreKnownNotes}
 
 -- the view has what it had
 pub record Grows (old new : ServiceView) : Type 0 where
-  pub contents : (sequence chunk_id : ℕ) (content : Content) → content_at old sequence chunk_id ≡ Some content → content_at new sequence chunk_id ≡ Some content
-  pub looks : (place id count : ℕ) (found : Found) → found_among place id count old.looks ≡ Some found → found_among place id count new.looks ≡ Some found
+  pub contents : (sequence position : ℕ) (content : Content) → content_at old sequence position ≡ Some content → content_at new sequence position ≡ Some content
+  pub looks : (place position count : ℕ) (found : Found) → found_among place position count old.looks ≡ Some found → found_among place position count new.looks ≡ Some found
   pub commits : (place : ℕ) (committed : Committed) → slice_get old.commits place ≡ Some committed → slice_get new.commits place ≡ Some committed
 
 pub known_grows : (old new : ServiceView) (note : Noted) → Grows old new → IsKnownNote old note → IsKnownNote new note
@@ -44,12 +44,12 @@ history_stays old new (note ∷ notes) grows known =
     ∙ ap (λ (es : List model.Event). happened old note ++ es) (history_stays old new notes grows known.1)
 
 -- what was found first stays so
-pub found_more : (place id count : ℕ) (looks more : List Look) (found : Found) → found_among place id count looks ≡ Some found → found_among place id count (looks ++ more) ≡ Some found
-found_more place id count [] more found is = absurd (cc)
-found_more place id count (look ∷ looks) more found is = step (is_scraped place id count look.found) is (found_more place id count looks more found)
+pub found_more : (place position count : ℕ) (looks more : List Look) (found : Found) → found_among place position count looks ≡ Some found → found_among place position count (looks ++ more) ≡ Some found
+found_more place position count [] more found is = absurd (cc)
+found_more place position count (look ∷ looks) more found is = step (is_scraped place position count look.found) is (found_more place position count looks more found)
   where
-    step : (b : Bool) → cond b look.found (found_among place id count looks) ≡ Some found
-        → (found_among place id count looks ≡ Some found → found_among place id count (looks ++ more) ≡ Some found)
-        → cond b look.found (found_among place id count (looks ++ more)) ≡ Some found
+    step : (b : Bool) → cond b look.found (found_among place position count looks) ≡ Some found
+        → (found_among place position count looks ≡ Some found → found_among place position count (looks ++ more) ≡ Some found)
+        → cond b look.found (found_among place position count (looks ++ more)) ≡ Some found
     step true h k = h
     step false h k = k h

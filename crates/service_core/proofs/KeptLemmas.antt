@@ -4,14 +4,14 @@ use Rattle.std.proofs.lemmas.List.{get_or_read, length-map}
 use Rattle.trace_base.specs.declared.policy.WriterSpec.{WriterSpec}
 use Rattle.page_geometry.specs.Sizes.{record_size}
 use Rattle.chunk_plain.specs.declared.setup.ChunkRange.{ChunkRange}
-use Rattle.chunk_plain.specs.Setup.{Setup, range_of, size_of, producer_of}
+use Rattle.chunk_plain.specs.Setup.{Setup, range_of, size_of, producer_of, no_writer, from_of}
 use Rattle.chunk_plain.specs.Views.{Taken, ServiceView, taken_of}
 use Rattle.service_core.specs.declared.service.ServiceCore.{ServiceCore}
-use Rattle.service_core.specs.Routing.{IsAt}
-use Rattle.service_core.specs.Agreement.{ServiceAgrees, spec_at, no_writer}
+use Rattle.service_core.specs.Routing.{IsAt, from_at}
+use Rattle.service_core.specs.Agreement.{ServiceAgrees, spec_at}
 use Rattle.service_core.specs.Taking.{IsRange}
 use Rattle.service_core.proofs.TakingLemmas.{counts_at}
-use Rattle.service_core.proofs.RoutedLemmas.{stands}
+use Rattle.service_core.proofs.RoutedLemmas.{stands, knows_from}
 
 module _ {S : Type 0} (setup : Setup) (view : ServiceView) (core : ServiceCore S) (place : ℕ) (agrees : ServiceAgrees setup view core) (below : place < length setup.writers) where
   pub has_place : place < length view.taken
@@ -48,3 +48,15 @@ module _ {S : Type 0} (setup : Setup) (view : ServiceView) (core : ServiceCore S
   found_at spec number read named =
       subst (λ (n : ℕ). IsAt core.buffers.items (n - 1) (place + 2) (record_size (size_of setup (producer_of setup place))))
       (sym (named ∙ ap (λ (w : WriterSpec). w.buffer) (read_spec spec read))) (stands setup view core place agrees below)
+
+  -- which knows the id of the writer's first chunk
+  pub from_here : (spec : WriterSpec) (number : ℕ) → spec ≡ get_or core.writers.items place spec → number ≡ spec.buffer
+      → from_at core.buffers.items (number - 1) (place + 2) ≡ from_of setup place
+  from_here spec number read named =
+      ap (λ (n : ℕ). from_at core.buffers.items (n - 1) (place + 2)) (named ∙ ap (λ (w : WriterSpec). w.buffer) (read_spec spec read))
+      ∙ knows_from setup view core place agrees below
+
+  pub from_in_sequence : (spec : WriterSpec) (number sequence : ℕ) → spec ≡ get_or core.writers.items place spec → number ≡ spec.buffer → place + 2 ≡ sequence
+      → from_at core.buffers.items (number - 1) sequence ≡ from_of setup place
+  from_in_sequence spec number sequence read named back =
+      ap (λ (q : ℕ). from_at core.buffers.items (number - 1) q) (sym back) ∙ from_here spec number read named

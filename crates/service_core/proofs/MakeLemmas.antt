@@ -10,13 +10,13 @@ use Rattle.page_geometry.specs.Sizes.{record_size, payload_size}
 use Rattle.trace_model.specs.Sequences.{Sequence, fresh}
 use Rattle.trace_model.specs.Buffers.{Buffer, empty_buffer}
 use Rattle.chunk_plain.specs.declared.setup.ProducerSpec.{ProducerSpec}
-use Rattle.chunk_plain.specs.Setup.{Setup, size_of}
+use Rattle.chunk_plain.specs.Setup.{Setup, size_of, no_writer}
 use Rattle.chunk_plain.specs.Laying.{ranges_of, chunks_in, setup_of}
 use Rattle.world_model.specs.FirstBuffers as first
 use Rattle.world_model.specs.FirstBuffers.{sequences_from, first_buffers}
 use Rattle.trace_buffer.specs.declared.answers.SequenceSpec.{SequenceSpec}
 use Rattle.trace_buffer.specs.Made.{sequence_of, AreDistinct, AllSmall}
-use Rattle.service_core.specs.Agreement.{spec_at, no_writer}
+use Rattle.service_core.specs.Agreement.{spec_at}
 
 -- the numbers of the sequences are below this one
 abbrev pub AllBelow : ℕ → List SequenceSpec → Type 0
@@ -56,58 +56,59 @@ distinct_append (s ∷ specs) spec below distinct =
 -- the sequences of a buffer, with one more writer
 from_append : (setup : Setup) (buffer place : ℕ) (specs : List WriterSpec) (spec : WriterSpec)
     → sequences_from setup buffer place (specs ++ spec ∷ [])
-    ≡ sequences_from setup buffer place specs ++ cond (spec.buffer == buffer) (fresh (place + length specs + 2) (record_size (size_of setup spec.producer)) ∷ []) []
+    ≡ sequences_from setup buffer place specs ++ cond (spec.buffer == buffer) (fresh (place + length specs + 2) (record_size (size_of setup spec.producer)) spec.from ∷ []) []
 from_append setup buffer place [] spec =
-    ap (λ (n : ℕ). cond (spec.buffer == buffer) (fresh (n + 2) (record_size (size_of setup spec.producer)) ∷ []) []) (let same : place ≡ place + 0 = omega arith in same)
+    ap (λ (n : ℕ). cond (spec.buffer == buffer) (fresh (n + 2) (record_size (size_of setup spec.producer)) spec.from ∷ []) []) (let same : place ≡ place + 0 = omega arith in same)
 from_append setup buffer place (s ∷ specs) spec =
     let later : suc place + length specs ≡ place + suc (length specs) = omega arith in
     let rest = from_append setup buffer (suc place) specs spec
-    ∙ ap (λ (n : ℕ). sequences_from setup buffer (suc place) specs ++ cond (spec.buffer == buffer) (fresh (n + 2) (record_size (size_of setup spec.producer)) ∷ []) []) later in
+    ∙ ap (λ (n : ℕ). sequences_from setup buffer (suc place) specs ++ cond (spec.buffer == buffer) (fresh (n + 2) (record_size (size_of setup spec.producer)) spec.from ∷ []) []) later in
     step (s.buffer == buffer) rest
   where
     step : (b : Bool)
-        → sequences_from setup buffer (suc place) (specs ++ spec ∷ []) ≡ sequences_from setup buffer (suc place) specs ++ cond (spec.buffer == buffer) (fresh (place + suc (length specs) + 2) (record_size (size_of setup spec.producer)) ∷ []) []
-        → cond b (fresh (place + 2) (record_size (size_of setup s.producer)) ∷ sequences_from setup buffer (suc place) (specs ++ spec ∷ [])) (sequences_from setup buffer (suc place) (specs ++ spec ∷ []))
-        ≡ cond b (fresh (place + 2) (record_size (size_of setup s.producer)) ∷ sequences_from setup buffer (suc place) specs) (sequences_from setup buffer (suc place) specs)
-        ++ cond (spec.buffer == buffer) (fresh (place + suc (length specs) + 2) (record_size (size_of setup spec.producer)) ∷ []) []
-    step true rest = ap (λ (ss : List Sequence). fresh (place + 2) (record_size (size_of setup s.producer)) ∷ ss) rest
+        → sequences_from setup buffer (suc place) (specs ++ spec ∷ []) ≡ sequences_from setup buffer (suc place) specs ++ cond (spec.buffer == buffer) (fresh (place + suc (length specs) + 2) (record_size (size_of setup spec.producer)) spec.from ∷ []) []
+        → cond b (fresh (place + 2) (record_size (size_of setup s.producer)) s.from ∷ sequences_from setup buffer (suc place) (specs ++ spec ∷ [])) (sequences_from setup buffer (suc place) (specs ++ spec ∷ []))
+        ≡ cond b (fresh (place + 2) (record_size (size_of setup s.producer)) s.from ∷ sequences_from setup buffer (suc place) specs) (sequences_from setup buffer (suc place) specs)
+        ++ cond (spec.buffer == buffer) (fresh (place + suc (length specs) + 2) (record_size (size_of setup spec.producer)) spec.from ∷ []) []
+    step true rest = ap (λ (ss : List Sequence). fresh (place + 2) (record_size (size_of setup s.producer)) s.from ∷ ss) rest
     step false rest = rest
 
 from_next : (setup : Setup) (buffer : ℕ) (specs : List WriterSpec) (i : ℕ) → i < length specs
     → sequences_from setup buffer 0 (take (i + 1) specs)
-    ≡ sequences_from setup buffer 0 (take i specs) ++ cond ((spec_at specs i).buffer == buffer) (fresh (i + 2) (record_size (size_of setup (spec_at specs i).producer)) ∷ []) []
+    ≡ sequences_from setup buffer 0 (take i specs) ++ cond ((spec_at specs i).buffer == buffer) (fresh (i + 2) (record_size (size_of setup (spec_at specs i).producer)) (spec_at specs i).from ∷ []) []
 from_next setup buffer specs i below =
     let spec : WriterSpec = spec_at specs i in
     let long : 0 + length (take i specs) ≡ i = let same = length-take-le i specs (omega arith) in omega (arith, same) in
     ap (sequences_from setup buffer 0) (take_more specs i no_writer below)
     ∙ from_append setup buffer 0 (take i specs) spec
-    ∙ ap (λ (n : ℕ). sequences_from setup buffer 0 (take i specs) ++ cond (spec.buffer == buffer) (fresh (n + 2) (record_size (size_of setup spec.producer)) ∷ []) []) long
+    ∙ ap (λ (n : ℕ). sequences_from setup buffer 0 (take i specs) ++ cond (spec.buffer == buffer) (fresh (n + 2) (record_size (size_of setup spec.producer)) spec.from ∷ []) []) long
 
 pub from_skip : (setup : Setup) (buffer : ℕ) (specs : List WriterSpec) (i : ℕ) → i < length specs → (spec_at specs i).buffer ≢ buffer
     → sequences_from setup buffer 0 (take (i + 1) specs) ≡ sequences_from setup buffer 0 (take i specs)
 from_skip setup buffer specs i below differs =
     let spec : WriterSpec = spec_at specs i in
     from_next setup buffer specs i below
-    ∙ ap (λ (b : Bool). sequences_from setup buffer 0 (take i specs) ++ cond b (fresh (i + 2) (record_size (size_of setup spec.producer)) ∷ []) []) (ne_eqb spec.buffer buffer differs)
+    ∙ ap (λ (b : Bool). sequences_from setup buffer 0 (take i specs) ++ cond b (fresh (i + 2) (record_size (size_of setup spec.producer)) spec.from ∷ []) []) (ne_eqb spec.buffer buffer differs)
     ∙ append-nil (sequences_from setup buffer 0 (take i specs))
 
 pub from_add : (setup : Setup) (buffer : ℕ) (specs : List WriterSpec) (i : ℕ) → i < length specs → (spec_at specs i).buffer ≡ buffer
     → sequences_from setup buffer 0 (take (i + 1) specs)
-    ≡ sequences_from setup buffer 0 (take i specs) ++ fresh (i + 2) (record_size (size_of setup (spec_at specs i).producer)) ∷ []
+    ≡ sequences_from setup buffer 0 (take i specs) ++ fresh (i + 2) (record_size (size_of setup (spec_at specs i).producer)) (spec_at specs i).from ∷ []
 from_add setup buffer specs i below same =
     let spec : WriterSpec = spec_at specs i in
     from_next setup buffer specs i below
-    ∙ ap (λ (b : Bool). sequences_from setup buffer 0 (take i specs) ++ cond b (fresh (i + 2) (record_size (size_of setup spec.producer)) ∷ []) []) (eq-eqb spec.buffer buffer same)
+    ∙ ap (λ (b : Bool). sequences_from setup buffer 0 (take i specs) ++ cond b (fresh (i + 2) (record_size (size_of setup spec.producer)) spec.from ∷ []) []) (eq-eqb spec.buffer buffer same)
 
 -- one sequence more was made
 pub made_more : (setup : Setup) (buffer : ℕ) (specs : List WriterSpec) (i : ℕ) (made : List SequenceSpec) (one : SequenceSpec) → i < length specs → (spec_at specs i).buffer ≡ buffer
-    → one.sequence ≡ i + 2 → one.payload ≡ size_of setup (spec_at specs i).producer → map sequence_of made ≡ sequences_from setup buffer 0 (take i specs)
+    → one.sequence ≡ i + 2 → one.payload ≡ size_of setup (spec_at specs i).producer → one.from ≡ (spec_at specs i).from → map sequence_of made ≡ sequences_from setup buffer 0 (take i specs)
     → map sequence_of (made ++ one ∷ []) ≡ sequences_from setup buffer 0 (take (i + 1) specs)
-made_more setup buffer specs i made one below same number payload before =
+made_more setup buffer specs i made one below same number payload from before =
     map-append sequence_of made (one ∷ [])
     ∙ ap (λ (ss : List Sequence). ss ++ sequence_of one ∷ []) before
-    ∙ ap (λ (n : ℕ). sequences_from setup buffer 0 (take i specs) ++ fresh n (record_size one.payload) ∷ []) number
-    ∙ ap (λ (p : ℕ). sequences_from setup buffer 0 (take i specs) ++ fresh (i + 2) (record_size p) ∷ []) payload
+    ∙ ap (λ (n : ℕ). sequences_from setup buffer 0 (take i specs) ++ fresh n (record_size one.payload) one.from ∷ []) number
+    ∙ ap (λ (p : ℕ). sequences_from setup buffer 0 (take i specs) ++ fresh (i + 2) (record_size p) one.from ∷ []) payload
+    ∙ ap (λ (n : ℕ). sequences_from setup buffer 0 (take i specs) ++ fresh (i + 2) (record_size (size_of setup (spec_at specs i).producer)) n ∷ []) from
     ∙ sym (from_add setup buffer specs i below same)
 
 -- each producer has chunks, and its payload size

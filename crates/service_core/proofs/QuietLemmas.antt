@@ -25,35 +25,35 @@ use Rattle.service_core.proofs.TakingLemmas.{took_grows}
 -- no note is a read
 abbrev pub AreSilent : List Noted → Type 0
 AreSilent [] = Unit {0}
-AreSilent (Arrive q id ∷ notes) = AreSilent notes
-AreSilent (Partial q id count ∷ notes) = AreSilent notes
-AreSilent (Patched q id ∷ notes) = AreSilent notes
+AreSilent (Arrive q position ∷ notes) = AreSilent notes
+AreSilent (Partial q position count ∷ notes) = AreSilent notes
+AreSilent (Patched q position ∷ notes) = AreSilent notes
 AreSilent (Closed q ∷ notes) = AreSilent notes
 AreSilent (Read q limit ∷ notes) = ⊥
 AreSilent (Commit at ∷ notes) = AreSilent notes
 
 pub silent_append : (xs ys : List Noted) → AreSilent xs → AreSilent ys → AreSilent (xs ++ ys)
 silent_append [] ys first second = second
-silent_append (Arrive q id ∷ xs) ys first second = silent_append xs ys first second
-silent_append (Partial q id count ∷ xs) ys first second = silent_append xs ys first second
-silent_append (Patched q id ∷ xs) ys first second = silent_append xs ys first second
+silent_append (Arrive q position ∷ xs) ys first second = silent_append xs ys first second
+silent_append (Partial q position count ∷ xs) ys first second = silent_append xs ys first second
+silent_append (Patched q position ∷ xs) ys first second = silent_append xs ys first second
 silent_append (Closed q ∷ xs) ys first second = silent_append xs ys first second
 silent_append (Read q limit ∷ xs) ys first second = absurd first
 silent_append (Commit at ∷ xs) ys first second = silent_append xs ys first second
 
-arrival_quiet : (bs : List Buffer) (q id : ℕ) (content : Option Content) → records_after bs (arrival_of q id content) ≡ []
-arrival_quiet bs q id None = refl
-arrival_quiet bs q id (Some content) = by_reading (reading_of content.image.count content.image.payload)
+arrival_quiet : (bs : List Buffer) (q position : ℕ) (content : Option Content) → records_after bs (arrival_of q position content) ≡ []
+arrival_quiet bs q position None = refl
+arrival_quiet bs q position (Some content) = by_reading (reading_of content.image.count content.image.payload)
   where
-    by_reading : (reading : Reading) → records_after bs (once_read (λ chunk. model.Arrives q id chunk) content.image.flags reading) ≡ []
+    by_reading : (reading : Reading) → records_after bs (once_read (λ chunk. model.Arrives q position chunk) content.image.flags reading) ≡ []
     by_reading (Fragments fragments) = refl
     by_reading (Unreadable number) = refl
 
-part_quiet : (bs : List Buffer) (q id count : ℕ) (found : Option Found) → records_after bs (part_of q id count found) ≡ []
-part_quiet bs q id count None = refl
-part_quiet bs q id count (Some found) = by_reading (reading_of count found.sealed)
+part_quiet : (bs : List Buffer) (q position count : ℕ) (found : Option Found) → records_after bs (part_of q position count found) ≡ []
+part_quiet bs q position count None = refl
+part_quiet bs q position count (Some found) = by_reading (reading_of count found.sealed)
   where
-    by_reading : (reading : Reading) → records_after bs (once_read (λ chunk. model.ArrivesInPart q id chunk) found.head.flags reading) ≡ []
+    by_reading : (reading : Reading) → records_after bs (once_read (λ chunk. model.ArrivesInPart q position chunk) found.head.flags reading) ≡ []
     by_reading (Fragments fragments) = refl
     by_reading (Unreadable number) = refl
 
@@ -73,15 +73,15 @@ quiet_front bs xs ys first second =
 -- such notes write nothing
 pub silent_records : (bs : List Buffer) (view : ServiceView) (notes : List Noted) → AreSilent notes → records_after bs (flat_map (happened view) notes) ≡ []
 silent_records bs view [] silent = refl
-silent_records bs view (Arrive q id ∷ notes) silent =
-    let xs : List Event = happened view (Arrive q id) in
-    quiet_front bs xs (flat_map (happened view) notes) (arrival_quiet bs q id (content_at view q id)) (silent_records (buffers_after bs xs) view notes silent)
-silent_records bs view (Partial q id count ∷ notes) silent =
-    let xs : List Event = happened view (Partial q id count) in
-    quiet_front bs xs (flat_map (happened view) notes) (part_quiet bs q id count (found_among (q - 2) id count view.looks)) (silent_records (buffers_after bs xs) view notes silent)
-silent_records bs view (Patched q id ∷ notes) silent =
-    let xs : List Event = happened view (Patched q id) in
-    quiet_front bs xs (flat_map (happened view) notes) (patches_quiet bs q (content_at view q id)) (silent_records (buffers_after bs xs) view notes silent)
+silent_records bs view (Arrive q position ∷ notes) silent =
+    let xs : List Event = happened view (Arrive q position) in
+    quiet_front bs xs (flat_map (happened view) notes) (arrival_quiet bs q position (content_at view q position)) (silent_records (buffers_after bs xs) view notes silent)
+silent_records bs view (Partial q position count ∷ notes) silent =
+    let xs : List Event = happened view (Partial q position count) in
+    quiet_front bs xs (flat_map (happened view) notes) (part_quiet bs q position count (found_among (q - 2) position count view.looks)) (silent_records (buffers_after bs xs) view notes silent)
+silent_records bs view (Patched q position ∷ notes) silent =
+    let xs : List Event = happened view (Patched q position) in
+    quiet_front bs xs (flat_map (happened view) notes) (patches_quiet bs q (content_at view q position)) (silent_records (buffers_after bs xs) view notes silent)
 silent_records bs view (Closed q ∷ notes) silent =
     let xs : List Event = happened view (Closed q) in
     quiet_front bs xs (flat_map (happened view) notes) refl (silent_records (buffers_after bs xs) view notes silent)
@@ -99,14 +99,14 @@ pub record Adds (old new : ServiceView) : Type 0 where
 
 pub grow_both : (old mid new : ServiceView) → Grows old mid → Grows mid new → Grows old new
 grow_both old mid new first second = record {
-  contents = λ q id content is. second.contents q id content (first.contents q id content is);
-  looks = λ place id count found is. second.looks place id count found (first.looks place id count found is);
+  contents = λ q position content is. second.contents q position content (first.contents q position content is);
+  looks = λ place position count found is. second.looks place position count found (first.looks place position count found is);
   commits = λ place committed is. second.commits place committed (first.commits place committed is);
 }
 
 pub adds_none : (view : ServiceView) → Adds view view
 adds_none view = record {
-  grows = record { contents = λ q id content is. is; looks = λ place id count found is. is; commits = λ place committed is. is };
+  grows = record { contents = λ q position content is. is; looks = λ place position count found is. is; commits = λ place committed is. is };
   notes = [];
   events = sym (append-nil view.events);
   silent = tt;
@@ -132,14 +132,14 @@ adds_quiet bs old new known adds =
     ∙ append-nil (records_after bs (flat_map (happened new) old.events))
     ∙ ap (records_after bs) (history_stays old new old.events adds.grows known)
 
-patched_silent : (patches : List Patch) (q id : ℕ) → AreSilent (patched_where patches q id)
-patched_silent [] q id = tt
-patched_silent (patch ∷ patches) q id = tt
+patched_silent : (patches : List Patch) (q position : ℕ) → AreSilent (patched_where patches q position)
+patched_silent [] q position = tt
+patched_silent (patch ∷ patches) q position = tt
 
-takings_silent : (q id : ℕ) (contents : List Content) → AreSilent (takings q id contents)
-takings_silent q id [] = tt
-takings_silent q id (content ∷ contents) =
-    silent_append (patched_where content.patches q id) (takings q (suc id) contents) (patched_silent content.patches q id) (takings_silent q (suc id) contents)
+takings_silent : (q position : ℕ) (contents : List Content) → AreSilent (takings q position contents)
+takings_silent q position [] = tt
+takings_silent q position (content ∷ contents) =
+    silent_append (patched_where content.patches q position) (takings q (suc position) contents) (patched_silent content.patches q position) (takings_silent q (suc position) contents)
 
 closes_silent : (places : List ℕ) → AreSilent (closes_of places)
 closes_silent [] = tt

@@ -1,9 +1,9 @@
--- Chunks that are taken use up ids.
+-- Chunks that are taken use up positions.
 use Rattle.std.proofs.Common.{◌≡◌, ◌∙◌, ℕ, zero, suc, ◌+◌, ◌-◌, ◌^◌, ◌<◌, ◌≤◌, ◌⊎◌, List, [], ◌∷◌, length, map, get_or, set, refl, sym, ap, subst, arith, inl, inr}
 use Rattle.std.specs.List.{sum_by}
 use Rattle.std.proofs.lemmas.Bool.{cases_eq}
 use Rattle.std.proofs.lemmas.List.Sums.{sum_by-cons}
-use Rattle.chunk_plain.specs.declared.tokens.TheConstants.{ID_LIMIT}
+use Rattle.chunk_plain.specs.declared.tokens.TheConstants.{POSITION_LIMIT}
 use Rattle.chunk_plain.specs.Setup.{Setup}
 use Rattle.chunk_plain.specs.Views.{Taken, none_taken, ServiceView, taken_of}
 use Rattle.service_core.specs.declared.service.ServiceCore.{ServiceCore}
@@ -12,19 +12,19 @@ use Rattle.service_core.specs.Taking.{Takes, took, taken_more, places_of}
 use Rattle.service_core.proofs.QuietLemmas.{AllBelow, long_still, places_below}
 use Rattle.service_core.proofs.TakingLemmas.{counts_at, taken_here, taken_other}
 
--- the ids that are left of each
+-- the positions that are left of each
 abbrev room_of : List Taken → ℕ
 room_of [] = 0
-room_of (taken ∷ others) = (ID_LIMIT - taken.count) + room_of others
+room_of (taken ∷ others) = (POSITION_LIMIT - taken.count) + room_of others
 
-sum_room : (taken : List Taken) → sum_by (λ (n : ℕ). ID_LIMIT - n) (map (λ (t : Taken). t.count) taken) ≡ room_of taken
+sum_room : (taken : List Taken) → sum_by (λ (n : ℕ). POSITION_LIMIT - n) (map (λ (t : Taken). t.count) taken) ≡ room_of taken
 sum_room [] = refl
 sum_room (one ∷ taken) =
-    sum_by-cons (λ (n : ℕ). ID_LIMIT - n) one.count (map (λ (t : Taken). t.count) taken) ∙ ap (λ (n : ℕ). (ID_LIMIT - one.count) + n) (sum_room taken)
+    sum_by-cons (λ (n : ℕ). POSITION_LIMIT - n) one.count (map (λ (t : Taken). t.count) taken) ∙ ap (λ (n : ℕ). (POSITION_LIMIT - one.count) + n) (sum_room taken)
 
 -- where more is taken of one, as much less is left
 set_room : (taken : List Taken) (place more : ℕ) (one : Taken) → place < length taken → one.count ≡ (get_or taken place none_taken).count + more
-    → one.count ≤ ID_LIMIT → room_of (set taken place one) + more ≡ room_of taken
+    → one.count ≤ POSITION_LIMIT → room_of (set taken place one) + more ≡ room_of taken
 set_room [] place more one inside is fits = absurd (omega (arith, inside))
 set_room (first ∷ taken) zero more one inside is fits = omega (arith, is, fits)
 set_room (first ∷ taken) (suc place) more one inside is fits =
@@ -54,7 +54,7 @@ takes_grow setup (one ∷ places) taken old new below takes place =
         omega (arith, here)
 
 takes_room : (setup : Setup) (places : List ℕ) (taken : ℕ) (old new : ServiceView) → AllBelow (length old.taken) places → Takes setup places taken old new
-    → ((place : ℕ) → (taken_of new place).count ≤ ID_LIMIT) → room_of new.taken + taken ≡ room_of old.taken
+    → ((place : ℕ) → (taken_of new place).count ≤ POSITION_LIMIT) → room_of new.taken + taken ≡ room_of old.taken
 takes_room setup [] taken old new below takes fits =
     let same = ap (λ (v : ServiceView). room_of v.taken) takes.1 in let none = takes.0 in omega (arith, same, none)
 takes_room setup (place ∷ places) taken old new below takes fits =
@@ -71,15 +71,15 @@ takes_room setup (place ∷ places) taken old new below takes fits =
     let sum = takes.3 in
     omega (arith, rest, first, same, many, sum)
 
--- A taking of some chunks leaves fewer ids.
+-- A taking of some chunks leaves fewer positions.
 pub ids_fall : {S : Type 0} (setup : Setup) (old new : ServiceView) (before after : ServiceCore S) (producer taken : ℕ) → ServiceAgrees setup old before
     → ServiceAgrees setup new after → Takes setup (places_of producer 0 setup.writers) taken old new
     → ((place : ℕ) → get_or after.taken.items place 0 < 2 ^ 32) → 0 < taken → ids_left after < ids_left before
 ids_fall setup old new before after producer taken was is takes fit some =
     let below = places_below producer 0 setup.writers (length old.taken) (let many = was.many in omega arith) in
-    let fits : (place : ℕ) → (taken_of new place).count ≤ ID_LIMIT = λ place.
+    let fits : (place : ℕ) → (taken_of new place).count ≤ POSITION_LIMIT = λ place.
     (let read = ap (λ (ns : List ℕ). get_or ns place 0) is.taken ∙ counts_at new place in let small = fit place in omega (arith, read, small)) in
     let room = takes_room setup (places_of producer 0 setup.writers) taken old new below takes fits in
-    let left = ap (λ (ns : List ℕ). sum_by (λ (n : ℕ). ID_LIMIT - n) ns) was.taken ∙ sum_room old.taken in
-    let rest = ap (λ (ns : List ℕ). sum_by (λ (n : ℕ). ID_LIMIT - n) ns) is.taken ∙ sum_room new.taken in
+    let left = ap (λ (ns : List ℕ). sum_by (λ (n : ℕ). POSITION_LIMIT - n) ns) was.taken ∙ sum_room old.taken in
+    let rest = ap (λ (ns : List ℕ). sum_by (λ (n : ℕ). POSITION_LIMIT - n) ns) is.taken ∙ sum_room new.taken in
     omega (arith, room, left, rest, some)

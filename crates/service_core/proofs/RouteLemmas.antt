@@ -1,19 +1,22 @@
 -- The buffers of a service behind events: each is where it was, and one of them has the sequence.
-use Rattle.std.proofs.Common.{◌≡◌, ◌≢◌, ◌∙◌, ℕ, zero, suc, ◌<◌, ◌≤◌, Bool, true, false, List, [], ◌∷◌, ◌++◌, length, set, refl, sym, ap, arith, inl, inr}
+use Rattle.std.proofs.Common.{◌≡◌, ◌≢◌, ◌∙◌, ℕ, zero, suc, ◌^◌, ◌<◌, ◌≤◌, Bool, true, false, List, [], ◌∷◌, ◌++◌, length, set, refl, sym, ap, arith, inl, inr}
 use Rattle.std.specs.Prelude.{cond}
 use Rattle.std.proofs.lemmas.Bool.{cases_lt}
 use Rattle.std.proofs.lemmas.List.{set-get_or}
 use Rattle.trace_base.specs.declared.policy.FullPolicy.TheVariants.{Ring}
-use Rattle.trace_model.specs.Images.{Image, Chunk, whole_chunk}
+use Rattle.trace_base.specs.Ids.{id_of}
+use Rattle.trace_model.specs.Images.{Image, Patch, Chunk, whole_chunk}
 use Rattle.trace_model.specs.Reading.{Reading, Fragments, Unreadable, reading_of}
 use Rattle.trace_model.specs.Sequences.{sequence_in, is_known}
 use Rattle.trace_model.specs.Buffers.{Buffer, empty_buffer}
 use Rattle.trace_model.specs.Arrivals.{with_image, with_partial_image, once_read}
-use Rattle.trace_model.specs.History.{Event, Arrives, ArrivesInPart, Committed, event_sequence, after, buffer_after, state_after, buffers_after}
-use Rattle.trace_model.proofs.ShapeLemmas.{is_close, size_after, closed_after}
+use Rattle.trace_model.specs.History.{Event, Arrives, ArrivesInPart, Patched, Committed, event_sequence, after, buffer_after, state_after, buffers_after}
+use Rattle.trace_model.proofs.ShapeLemmas.{is_close, size_after, from_after, closed_after}
+use Rattle.trace_model.specs.Ids.{placed_image, placed_patches}
+use Rattle.trace_model.proofs.NamingLemmas.{image_placed}
 use Rattle.chunk_plain.specs.Histories as histories
 use Rattle.delivery_laws.proofs.AskLemmas.{known_after}
-use Rattle.service_core.specs.Routing.{buffer_at, IsAt, is_closed_at, arrivals_of, partial_arrivals_of}
+use Rattle.service_core.specs.Routing.{buffer_at, IsAt, is_closed_at, from_at, arrivals_of, partial_arrivals_of}
 
 -- Events one after another
 
@@ -57,6 +60,10 @@ size_state : (b : Buffer) (events : List Event) (q : ℕ) → (sequence_in (stat
 size_state b [] q = refl
 size_state b (e ∷ es) q = size_state (buffer_after b e) es q ∙ size_after b e q
 
+from_state : (b : Buffer) (events : List Event) (q : ℕ) → (sequence_in (state_after b events).sequences q).from ≡ (sequence_in b.sequences q).from
+from_state b [] q = refl
+from_state b (e ∷ es) q = from_state (buffer_after b e) es q ∙ from_after b e q
+
 -- no event is a close
 abbrev pub NoCloses : List Event → Type 0
 NoCloses [] = Unit {0}
@@ -92,6 +99,25 @@ pub open_after : (bs : List Buffer) (index q : ℕ) (events : List Event) → in
     → is_closed_at (buffers_after bs events) index q ≡ is_closed_at bs index q
 open_after bs index q events below none =
     ap (λ (b : Buffer). (sequence_in b.sequences q).closed) (at_after bs index events below) ∙ closed_state (buffer_at bs index) events q none
+
+-- no event changes which id the first chunk has
+pub from_stays : (bs : List Buffer) (index q : ℕ) (events : List Event) → index < length bs → from_at (buffers_after bs events) index q ≡ from_at bs index q
+from_stays bs index q events below =
+    ap (λ (b : Buffer). (sequence_in b.sequences q).from) (at_after bs index events below) ∙ from_state (buffer_at bs index) events q
+
+-- An image comes under the id of its position, and then patches come under the ids of theirs.
+pub arrives_placed : (bs mid new : List Buffer) (index q from position : ℕ) (image : Image) (patches : List Patch) → index < length bs
+    → from_at bs index q ≡ from → image.chunk_id ≡ id_of from position → position < 2 ^ 32
+    → mid ≡ buffers_after bs (arrivals_of (placed_image (from_at bs index q) image))
+    → new ≡ buffers_after mid (Patched q (placed_patches (from_at mid index q) patches) ∷ [])
+    → new ≡ buffers_after (buffers_after bs (arrivals_of (record image { chunk_id = position }))) (Patched q (placed_patches from patches) ∷ [])
+arrives_placed bs mid new index q from position image patches below from_is id small mid_is new_is =
+    let one : Image = record image { chunk_id = position } in
+    let image_is : placed_image (from_at bs index q) image ≡ one = ap (λ (n : ℕ). placed_image n image) from_is ∙ image_placed from position image id small in
+    let mid_now : mid ≡ buffers_after bs (arrivals_of one) = mid_is ∙ ap (λ (i : Image). buffers_after bs (arrivals_of i)) image_is in
+    let still : from_at mid index q ≡ from = ap (λ (xs : List Buffer). from_at xs index q) mid_now ∙ from_stays bs index q (arrivals_of one) below ∙ from_is in
+    new_is ∙ ap (λ (n : ℕ). buffers_after mid (Patched q (placed_patches n patches) ∷ [])) still
+    ∙ ap (λ (xs : List Buffer). buffers_after xs (Patched q (placed_patches from patches) ∷ [])) mid_now
 
 -- One buffer changes
 
@@ -137,3 +163,9 @@ part_at bs index size image at =
 pub known_image : (b : Buffer) (image : Image) (q : ℕ) → is_known b.sequences image.sequence ≡ true → is_known (with_image b image).sequences q ≡ is_known b.sequences q
 known_image b image q known =
     ap (λ (x : Bool). is_known (cond x (with_image b image) b).sequences q) (sym known) ∙ known_after b (Committed image []) q
+
+-- nor which id its first chunk has
+pub from_image : (b : Buffer) (image : Image) (q : ℕ) → is_known b.sequences image.sequence ≡ true
+    → (sequence_in (with_image b image).sequences q).from ≡ (sequence_in b.sequences q).from
+from_image b image q known =
+    ap (λ (x : Bool). (sequence_in (cond x (with_image b image) b).sequences q).from) (sym known) ∙ from_after b (Committed image []) q

@@ -11,16 +11,16 @@ use Rattle.trace_model.specs.Sequences.{Sequence, sequence_in, is_known}
 use Rattle.trace_model.specs.Buffers.{Buffer}
 use Rattle.trace_model.specs.History as model
 use Rattle.trace_model.specs.History.{buffers_after}
-use Rattle.chunk_plain.specs.Setup.{Setup, size_of, producer_of}
+use Rattle.chunk_plain.specs.Setup.{Setup, size_of, producer_of, no_writer, from_of}
 use Rattle.chunk_plain.specs.Views.{Taken, ServiceView}
 use Rattle.chunk_plain.specs.Histories.{history_of}
 use Rattle.world_model.specs.FirstBuffers as first
 use Rattle.world_model.specs.FirstBuffers.{sequences_from, first_buffers}
 use Rattle.world_model.proofs.MakingLemmas.{first_long, set_at}
 use Rattle.service_core.specs.declared.service.ServiceCore.{ServiceCore}
-use Rattle.service_core.specs.Routing.{buffer_at, IsAt, is_closed_at, arrivals_of}
-use Rattle.service_core.specs.Agreement.{ServiceAgrees, KeepsFields, KeepsRest, spec_value, first_of, spec_at, no_writer, buffer_of, is_closed, IsAgreeing}
-use Rattle.service_core.proofs.RouteLemmas.{length_after, is_at_after, open_after, none_at, NoCloses, closes_none}
+use Rattle.service_core.specs.Routing.{buffer_at, IsAt, is_closed_at, from_at, arrivals_of}
+use Rattle.service_core.specs.Agreement.{ServiceAgrees, KeepsFields, KeepsRest, spec_value, first_of, spec_at, buffer_of, is_closed, IsAgreeing}
+use Rattle.service_core.proofs.RouteLemmas.{length_after, is_at_after, from_stays, open_after, none_at, NoCloses, closes_none}
 
 first_sequences : (setup : Setup) (n : ℕ) (specs : List first.BufferSpec) (i : ℕ) → i < length specs
     → (buffer_at (first_buffers setup n specs) i).sequences ≡ sequences_from setup (n + i) 0 setup.writers
@@ -81,6 +81,32 @@ stands setup view core place agrees inside =
     subst (λ (bs : List Buffer). IsAt bs index (place + 2) size) (sym agrees.buffers)
     (is_at_after (first_of setup core) index (place + 2) size (history_of view)
     (at_first setup specs place inside (agrees.routed.least place inside) (omega (arith, most, long))))
+
+from_first : (setup : Setup) (specs : List first.BufferSpec) (place : ℕ) → place < length setup.writers → 1 ≤ buffer_of setup place → buffer_of setup place ≤ length specs
+    → from_at (first_buffers setup 1 specs) (buffer_of setup place - 1) (place + 2) ≡ from_of setup place
+from_first setup specs place inside least most =
+    let spec : WriterSpec = spec_at setup.writers place in
+    let get = slice_get-get_or setup.writers place no_writer inside in
+    let index : ℕ = buffer_of setup place - 1 in
+    let below : index < length specs = omega arith in
+    let number : spec.buffer ≡ 1 + index = omega arith in
+    ap (λ (ss : List Sequence). (sequence_in ss (place + 2)).from) (first_sequences setup 1 specs index below)
+    ∙ (set_at setup place spec get (1 + index)).from_is (eq-eqb spec.buffer (1 + index) number)
+
+-- which knows the id of its first chunk
+pub knows_from : {S : Type 0} → (setup : Setup) (view : ServiceView) (core : ServiceCore S) (place : ℕ) → ServiceAgrees setup view core → place < length setup.writers
+    → from_at core.buffers.items (buffer_of setup place - 1) (place + 2) ≡ from_of setup place
+knows_from setup view core place agrees inside =
+    let index : ℕ = buffer_of setup place - 1 in
+    let specs : List first.BufferSpec = map spec_value core.specs.items in
+    let long : length specs ≡ length core.specs.items = length-map core.specs.items spec_value in
+    let most = agrees.routed.most place inside in
+    let high : buffer_of setup place ≤ length specs = omega (arith, most, long) in
+    let least = agrees.routed.least place inside in
+    let at = at_first setup specs place inside least high in
+    ap (λ (bs : List Buffer). from_at bs index (place + 2)) agrees.buffers
+    ∙ from_stays (first_of setup core) index (place + 2) (history_of view) at.inside
+    ∙ from_first setup specs place inside least high
 
 no_closes : (image : Image) → NoCloses (arrivals_of image)
 no_closes image = closes_none (λ chunk. model.Arrives image.sequence image.chunk_id chunk) (λ chunk. refl) image.flags (reading_of image.count image.payload)

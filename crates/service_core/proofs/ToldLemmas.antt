@@ -4,7 +4,7 @@ use Rattle.std.proofs.Math.Logic.{∥∥₁_elim, ∥∥₁_map, ⊎_swap}
 use Rattle.std.specs.Coded.{le_prop}
 use Rattle.std.proofs.lemmas.Bool.{cases_eq}
 use Rattle.std.proofs.lemmas.List.{get_or-set_other, set-set}
-use Rattle.chunk_plain.specs.declared.tokens.TheConstants.{ID_LIMIT}
+use Rattle.chunk_plain.specs.declared.tokens.TheConstants.{POSITION_LIMIT}
 use Rattle.chunk_plain.specs.Setup.{Setup, range_of, producer_of, IsChunkOf}
 use Rattle.chunk_plain.specs.Views.{At, BegunChunk, Held, Completed, Content, ServiceView, Taken, none_taken, taken_of}
 use Rattle.chunk_plain.specs.World.{World, Status, Unclaimed, Claimed, Stamped, Writing, Ready, Reading, status, writer}
@@ -114,19 +114,19 @@ free_more world next first (suc count) chunk least below was is others =
 
 -- One chunk is taken, or isn't
 
-pub frees_one : (place number count id chunk held : ℕ) (content : Content) (old : World) (told : Option World) (before view : ServiceView) → number ≡ place → id ≡ count → held ≡ chunk
-    → ∥ status old chunk ≡ Ready number id content ∥₁ → told ≡ Some (served (served old before chunk (Reading number id content)) view held Unclaimed)
+pub frees_one : (place number count position chunk held : ℕ) (content : Content) (old : World) (told : Option World) (before view : ServiceView) → number ≡ place → position ≡ count → held ≡ chunk
+    → ∥ status old chunk ≡ Ready number position content ∥₁ → told ≡ Some (served (served old before chunk (Reading number position content)) view held Unclaimed)
     → FreesOne place count chunk old told view
-frees_one place number count id chunk held content old told before view place_is id_is chunk_is ready is = record {
-  ready = ∥∥₁_map ready (λ r. (content, r ∙ (ap (λ (p : ℕ). Ready p id content) place_is ∙ ap (λ (i : ℕ). Ready place i content) id_is)));
-  told_is = is ∙ (ap (λ (c : ℕ). Some (served (served old before chunk (Reading number id content)) view c Unclaimed)) chunk_is
-      ∙ ap (λ (l : List Status). Some (record old { chunks = l; service = view })) (set-set old.chunks chunk (Reading number id content) Unclaimed));
+frees_one place number count position chunk held content old told before view place_is position_is chunk_is ready is = record {
+  ready = ∥∥₁_map ready (λ r. (content, r ∙ (ap (λ (p : ℕ). Ready p position content) place_is ∙ ap (λ (i : ℕ). Ready place i content) position_is)));
+  told_is = is ∙ (ap (λ (c : ℕ). Some (served (served old before chunk (Reading number position content)) view c Unclaimed)) chunk_is
+      ∙ ap (λ (l : List Status). Some (record old { chunks = l; service = view })) (set-set old.chunks chunk (Reading number position content) Unclaimed));
 }
 
-pub frees_none : (place number count id chunk : ℕ) (old : World) (told : Option World) (view : ServiceView) → number ≡ place → id ≡ count
-    → ((content : Content) → status old chunk ≡ Ready number id content → ⊥) → told ≡ Some (serviced old view) → FreesNone place count chunk old told view
-frees_none place number count id chunk old told view place_is id_is isnt is = record {
-  is = λ content ready. isnt content (ready ∙ (ap (λ (p : ℕ). Ready p count content) (sym place_is) ∙ ap (λ (i : ℕ). Ready number i content) (sym id_is)));
+pub frees_none : (place number count position chunk : ℕ) (old : World) (told : Option World) (view : ServiceView) → number ≡ place → position ≡ count
+    → ((content : Content) → status old chunk ≡ Ready number position content → ⊥) → told ≡ Some (serviced old view) → FreesNone place count chunk old told view
+frees_none place number count position chunk old told view place_is position_is isnt is = record {
+  is = λ content ready. isnt content (ready ∙ (ap (λ (p : ℕ). Ready p count content) (sym place_is) ∙ ap (λ (i : ℕ). Ready number i content) (sym position_is)));
   told_is = is;
 }
 
@@ -182,16 +182,16 @@ module _ (IsState : Status → Type 0) where
     told_is = found.told_is;
   }
 
-pub frees_behind : (setup : Setup) (place id first last : ℕ) (old : World) (mid told : Option World) (before view : ServiceView) → FreesNoneOf place id first last old mid before
-    → ((world : World) → mid ≡ Some world → FreesNext setup place id world told view) → FreesNext setup place id old told view
-frees_behind setup place id first last old mid told before view none more =
+pub frees_behind : (setup : Setup) (place position first last : ℕ) (old : World) (mid told : Option World) (before view : ServiceView) → FreesNoneOf place position first last old mid before
+    → ((world : World) → mid ≡ Some world → FreesNext setup place position world told view) → FreesNext setup place position old told view
+frees_behind setup place position first last old mid told before view none more =
     let next = more (serviced old before) none.told_is in
     record { chunk = next.chunk; is = next.is; frees = record { ready = next.frees.ready; told_is = next.frees.told_is } }
 
 -- one is found
-pub frees_next : (setup : Setup) (place id first chunk : ℕ) (old : World) (mid told : Option World) (before view : ServiceView) → FreesNoneOf place id first chunk old mid before
-    → IsChunkOf setup (producer_of setup place) chunk → ((world : World) → mid ≡ Some world → FreesOne place id chunk world told view) → FreesNext setup place id old told view
-frees_next setup place id first chunk old mid told before view none is more =
+pub frees_next : (setup : Setup) (place position first chunk : ℕ) (old : World) (mid told : Option World) (before view : ServiceView) → FreesNoneOf place position first chunk old mid before
+    → IsChunkOf setup (producer_of setup place) chunk → ((world : World) → mid ≡ Some world → FreesOne place position chunk world told view) → FreesNext setup place position old told view
+frees_next setup place position first chunk old mid told before view none is more =
     let next = more (serviced old before) none.told_is in
     record { chunk = chunk; is = is; frees = record { ready = next.ready; told_is = next.told_is } }
 
@@ -200,9 +200,9 @@ frees_next setup place id first chunk old mid told before view none is more =
 pub frees_some_yet : (setup : Setup) (place : ℕ) (old : World) (told : Option World) (view : ServiceView) → told ≡ Some old → view ≡ old.service → FreesSome setup place 0 old told view
 frees_some_yet setup place old told view is same = record { new = old; told_is = is; stands = behind_none old view same; freed = omega arith }
 
-pub frees_some_more : (setup : Setup) (place taken id : ℕ) (old : World) (mid told : Option World) (before view : ServiceView) → FreesSome setup place taken old mid before
-    → ((world : World) → mid ≡ Some world → FreesNext setup place id world told view) → FreesSome setup place (taken + 1) old told view
-frees_some_more setup place taken id old mid told before view some more =
+pub frees_some_more : (setup : Setup) (place taken position : ℕ) (old : World) (mid told : Option World) (before view : ServiceView) → FreesSome setup place taken old mid before
+    → ((world : World) → mid ≡ Some world → FreesNext setup place position world told view) → FreesSome setup place (taken + 1) old told view
+frees_some_more setup place taken position old mid told before view some more =
     let next = more some.new some.told_is in
     let range = range_of setup (producer_of setup place) in
     let new : World = served some.new view next.chunk Unclaimed in
@@ -233,9 +233,9 @@ none_by_count setup place taken old told view some all = record {
       absurd (cc (ready, free));
 }
 
--- the writer has no id left
+-- the writer has no position left
 pub none_by_ids : (setup : Setup) (place taken : ℕ) (old : World) (told : Option World) (view : ServiceView) → FreesSome setup place taken old told view
-    → ID_LIMIT ≤ (taken_of view place).count → LeavesNext setup place old told view
+    → POSITION_LIMIT ≤ (taken_of view place).count → LeavesNext setup place old told view
 none_by_ids setup place taken old told view some last = record {
   new = some.new;
   told_is = some.told_is;
@@ -284,10 +284,10 @@ leaves_skip setup producer first old told view leaves differs = record {
     step place below named (inr other) = omega (arith, below, other)
 
 -- a chunk that isn't ready doesn't become so
-not_ready : (old new : World) (chunk place id : ℕ) (content : Content) → (status new chunk ≡ status old chunk) ⊎ (status new chunk ≡ Unclaimed) → status new chunk ≡ Ready place id content
-    → status old chunk ≡ Ready place id content
-not_ready old new chunk place id content (inl same) ready = sym same ∙ ready
-not_ready old new chunk place id content (inr free) ready = absurd (cc (ready, free))
+not_ready : (old new : World) (chunk place position : ℕ) (content : Content) → (status new chunk ≡ status old chunk) ⊎ (status new chunk ≡ Unclaimed) → status new chunk ≡ Ready place position content
+    → status old chunk ≡ Ready place position content
+not_ready old new chunk place position content (inl same) ready = sym same ∙ ready
+not_ready old new chunk place position content (inr free) ready = absurd (cc (ready, free))
 
 pub none_stays : (setup : Setup) (place : ℕ) (old new : World) (view : ServiceView) → NoneNext setup place old → StandsBehind old view new
     → (taken_of new.service place).count ≡ (taken_of old.service place).count → NoneNext setup place new
@@ -342,30 +342,30 @@ leaves_noted setup producer old mid told before view leaves same more =
 -- What is left of writers that complete their chunks in order: nothing that is ready
 
 pub none_ready : (setup : Setup) (producer : ℕ) (world : World) → ∥ IsOwned world ∥₁ → AreOrderly setup producer world → NoneLeft setup producer world → NoneReady setup producer world
-none_ready setup producer world owned orderly none place inside named chunk id content is ready =
+none_ready setup producer world owned orderly none place inside named chunk position content is ready =
     ∥∥₁_elim owned (λ a b. absurd a) (λ o.
-    let at = (o.owns place chunk).ready_is id content ready in
+    let at = (o.owns place chunk).ready_is position content ready in
     let view = writer world place in
     let count : ℕ = (taken_of world.service place).count in
-    let low = at_inside view.begun (Completed chunk content) id at.0 in
+    let low = at_inside view.begun (Completed chunk content) position at.0 in
     let least = at.1 in
     let most = writes.2 in
-    let left : count < ID_LIMIT = omega (arith, low, least, most) in
+    let left : count < POSITION_LIMIT = omega (arith, low, least, most) in
     let here = at_some view.begun count (omega (arith, low, least)) in
-    step o at.0 least left here.0 here.1 (cases_eq id count))
+    step o at.0 least left here.0 here.1 (cases_eq position count))
   where
     own : IsChunkOf setup (producer_of setup place) chunk
     own = subst (λ (p : ℕ). IsChunkOf setup p chunk) (sym named) is
 
-    writes : IsAtRest setup place (writer world place) × CompletesInOrder (writer world place) × (length (writer world place).begun ≤ ID_LIMIT)
+    writes : IsAtRest setup place (writer world place) × CompletesInOrder (writer world place) × (length (writer world place).begun ≤ POSITION_LIMIT)
     writes = orderly place inside named
 
-    step : IsOwned world → At (writer world place).begun id (Completed chunk content) → (taken_of world.service place).count ≤ id → (taken_of world.service place).count < ID_LIMIT
+    step : IsOwned world → At (writer world place).begun position (Completed chunk content) → (taken_of world.service place).count ≤ position → (taken_of world.service place).count < POSITION_LIMIT
         → (entry : BegunChunk) → At (writer world place).begun (taken_of world.service place).count entry
-        → (id ≡ (taken_of world.service place).count) ⊎ (id ≡ (taken_of world.service place).count → ⊥) → ⊥
+        → (position ≡ (taken_of world.service place).count) ⊎ (position ≡ (taken_of world.service place).count → ⊥) → ⊥
     step o done least left entry here (inl same) = none place inside named chunk content own left (ready ∙ ap (λ (n : ℕ). Ready place n content) same)
     step o done least left (Held about draft) here (inr differs) =
-        let before = writes.1 (taken_of world.service place).count id about chunk draft content here done in omega (arith, least, before)
+        let before = writes.1 (taken_of world.service place).count position about chunk draft content here done in omega (arith, least, before)
     step o done least left (Completed about other) here (inr differs) =
         none place inside named about other (writes.0.begun (taken_of world.service place).count (Completed about other) here) left
         ((o.owns place about).completed_is (taken_of world.service place).count other here (omega arith))

@@ -1,12 +1,11 @@
 -- The service agrees with the view of its seat: its buffers are what the history in the view leads to.
 use Rattle.std.specs.Prelude.{◌≡◌, ℕ, ◌-◌, ◌<◌, ◌≤◌, Bool, false, List, [], ◌∷◌, length, map, sum_by, Some, slice_get, slice_index_or}
 use Rattle.trace_base.specs.declared.limits.TheConstants.{FIRST_SEQUENCE, MAX_WRITERS}
-use Rattle.trace_base.specs.declared.policy.WriterPolicy.TheVariants.{Drops}
 use Rattle.trace_base.specs.declared.policy.WriterSpec.{WriterSpec}
 use Rattle.trace_model.specs.Buffers.{Buffer}
 use Rattle.trace_model.specs.History.{buffers_after}
-use Rattle.chunk_plain.specs.declared.tokens.TheConstants.{ID_LIMIT}
-use Rattle.chunk_plain.specs.Setup.{Setup, HasProducer, producer_of, sequence_of}
+use Rattle.chunk_plain.specs.declared.tokens.TheConstants.{POSITION_LIMIT}
+use Rattle.chunk_plain.specs.Setup.{Setup, HasProducer, producer_of, sequence_of, no_writer}
 use Rattle.chunk_plain.specs.Steps.{taken_counts}
 use Rattle.chunk_plain.specs.Views.{Content, Found, Noted, Arrive, Partial, Patched, Closed, Read, Commit, Committed, ServiceView, taken_of}
 use Rattle.chunk_plain.specs.Histories.{history_of, content_at, found_among}
@@ -26,10 +25,6 @@ spec_value spec = record { size = spec.size; policy = spec.policy }
 abbrev pub first_of : {S : Type 0} → Setup → ServiceCore S → List Buffer
 first_of setup core = first.first_buffers setup 1 (map spec_value core.specs.items)
 
--- the specification of a writer that there isn't
-abbrev pub no_writer : WriterSpec
-no_writer = record { producer = 0; buffer = 0; policy = Drops }
-
 -- the writer at this place
 abbrev pub spec_at : List WriterSpec → ℕ → WriterSpec
 spec_at writers place = slice_index_or writers place no_writer
@@ -47,9 +42,10 @@ pub record IsRouted (setup : Setup) (count : ℕ) : Type 0 where
 
 -- the view has what the note speaks of
 abbrev pub IsKnownNote : ServiceView → Noted → Type 0
-IsKnownNote view (Arrive sequence chunk_id) = (content : Content) × (content_at view sequence chunk_id ≡ Some content)
-IsKnownNote view (Partial sequence chunk_id count) = (found : Found) × (found_among (sequence - FIRST_SEQUENCE) chunk_id count view.looks ≡ Some found)
-IsKnownNote view (Patched sequence chunk_id) = (content : Content) × (content_at view sequence chunk_id ≡ Some content)
+IsKnownNote view (Arrive sequence position) = (content : Content) × (content_at view sequence position ≡ Some content)
+IsKnownNote view (Partial sequence position count) = (found : Found)
+    × (found_among (sequence - FIRST_SEQUENCE) position count view.looks ≡ Some found)
+IsKnownNote view (Patched sequence position) = (content : Content) × (content_at view sequence position ≡ Some content)
 IsKnownNote view (Closed sequence) = Unit {0}
 IsKnownNote view (Read sequence limit) = Unit {0}
 IsKnownNote view (Commit place) = (committed : Committed) × (slice_get view.commits place ≡ Some committed)
@@ -125,6 +121,6 @@ IsAnsweredBy core flush =
     (place : ℕ) → place < core.session.writers → is_closed_in core place ≡ false
     → HasAnswered (answer_at core.session place) flush (slice_index_or core.taken.items place 0)
 
--- how many chunks the service can still take: of each writer, the ids that are left
+-- how many chunks the service can still take: of each writer, the positions that are left
 abbrev pub ids_left : {S : Type 0} → ServiceCore S → ℕ
-ids_left core = sum_by (λ taken. ID_LIMIT - taken) core.taken.items
+ids_left core = sum_by (λ taken. POSITION_LIMIT - taken) core.taken.items

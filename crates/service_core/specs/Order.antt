@@ -17,29 +17,29 @@ abbrev pub beginning : Stage
 beginning = record { come = 0; closed = false; due = [] }
 
 -- a part of the chunk stands on a look that found so many fragments of it
-pub record IsFoundPart (view : ServiceView) (sequence chunk_id count : ℕ) : Type 0 where
+pub record IsFoundPart (view : ServiceView) (sequence position count : ℕ) : Type 0 where
   pub found : Found
-  pub looked : found_among (sequence - FIRST_SEQUENCE) chunk_id count view.looks ≡ Some found
+  pub looked : found_among (sequence - FIRST_SEQUENCE) position count view.looks ≡ Some found
   pub some : 0 < length found.ends
 
--- The notes lead from one stage to another, in the order that is asked of an account: the chunks in the order of their ids, each once and with its
--- content, its patches right behind it, parts before it, and nothing behind the close or by a commit.
+-- The notes lead from one stage to another, in the order that is asked of an account: the chunks in the order of their positions, each once
+-- and with its content, its patches right behind it, parts before it, and nothing behind the close or by a commit.
 abbrev pub LeadTo : ServiceView → ℕ → Stage → List Noted → Stage → Type 0
 LeadTo view sequence stage [] last = stage ≡ last
-LeadTo view sequence stage (Arrive other chunk_id ∷ notes) last =
+LeadTo view sequence stage (Arrive other position ∷ notes) last =
     (stage.due ≡ [])
     × MatchBool (other == sequence)
-    ((stage.closed ≡ false) × (chunk_id ≡ stage.come) × (content : Content) × (content_at view sequence chunk_id ≡ Some content)
+    ((stage.closed ≡ false) × (position ≡ stage.come) × (content : Content) × (content_at view sequence position ≡ Some content)
     × LeadTo view sequence (record { come = suc stage.come; closed = stage.closed; due = content.patches }) notes last)
     (LeadTo view sequence stage notes last)
-LeadTo view sequence stage (Partial other chunk_id count ∷ notes) last =
+LeadTo view sequence stage (Partial other position count ∷ notes) last =
     (stage.due ≡ [])
     × MatchBool (other == sequence)
-    ((stage.closed ≡ false) × (chunk_id ≡ stage.come) × IsFoundPart view sequence chunk_id count × LeadTo view sequence stage notes last)
+    ((stage.closed ≡ false) × (position ≡ stage.come) × IsFoundPart view sequence position count × LeadTo view sequence stage notes last)
     (LeadTo view sequence stage notes last)
-LeadTo view sequence stage (Patched other chunk_id ∷ notes) last =
+LeadTo view sequence stage (Patched other position ∷ notes) last =
     MatchBool (other == sequence)
-    ((content : Content) × (content_at view sequence chunk_id ≡ Some content) × (content.patches ≡ stage.due)
+    ((content : Content) × (content_at view sequence position ≡ Some content) × (content.patches ≡ stage.due)
     × LeadTo view sequence (record stage { due = [] }) notes last)
     ((stage.due ≡ []) × LeadTo view sequence stage notes last)
 LeadTo view sequence stage (Closed other ∷ notes) last =

@@ -10,12 +10,13 @@ use Rattle.world_model.specs.Accounts.{InOrder}
 use Rattle.world_model.specs.FrontLaws.{StandsInWords}
 use Rattle.service_core.specs.Order.{Stage, LeadTo, beginning}
 
--- The images are those of the chunks that the writer began, by their ids: of each completed one its content's, and of each held one an image that
--- stands in its words.
+-- The images are those of the chunks that the writer began, by their positions: of each completed one its content's, and of each held one
+-- an image that stands in its words.
 pub record HasImages (view : WriterView) (images : List Image) : Type 0 where
-  pub completed : (id chunk : ℕ) (content : Content) → At view.begun id (Completed chunk content) → slice_get images id ≡ Some content.image
-  pub held : (id chunk : ℕ) (draft : Draft) → At view.begun id (Held chunk draft)
-      → (image : Image) × (slice_get images id ≡ Some image) × StandsInWords draft image × (length image.payload < drop_size)
+  pub completed : (position chunk : ℕ) (content : Content) → At view.begun position (Completed chunk content)
+      → slice_get images position ≡ Some content.image
+  pub held : (position chunk : ℕ) (draft : Draft) → At view.begun position (Held chunk draft)
+      → (image : Image) × (slice_get images position ≡ Some image) × StandsInWords draft image × (length image.payload < drop_size)
 
 -- In an owned world notes that lead from the beginning to a stage where no patches are due are in order: the parts that were noted of a chunk are
 -- fronts of its image.

@@ -23,6 +23,10 @@ pub record IsAt (buffers : List Buffer) (index sequence size : ℕ) : Type 0 whe
 abbrev pub is_closed_at : List Buffer → (index sequence : ℕ) → Bool
 is_closed_at buffers index sequence = (sequence_in (buffer_at buffers index).sequences sequence).closed
 
+-- the id of its first chunk, as the buffer there knows it
+abbrev pub from_at : List Buffer → (index sequence : ℕ) → ℕ
+from_at buffers index sequence = (sequence_in (buffer_at buffers index).sequences sequence).from
+
 -- what the arrival of an image is, where its fragments read, and nothing else
 abbrev pub arrivals_of : Image → List Event
 arrivals_of image =

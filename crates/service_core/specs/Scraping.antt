@@ -45,7 +45,7 @@ pub record ShowsPart (setup : Setup) (place taken count : ℕ) (looks : List Loo
   pub found : Found
   pub found_is : look.found ≡ Some found
   pub place_is : found.place ≡ place
-  pub id_is : found.id ≡ taken
+  pub position_is : found.position ≡ taken
   pub count_is : length found.ends ≡ count
 
 -- Finished fragments of the writer's next chunk came, so many, and at least one; they are noted, and stand on looks: one of this call found as
@@ -103,9 +103,9 @@ pub record FitsWord (header : ChunkHeader) : Type 0 where
   pub id : header.chunk_id < 2 ^ 32
   pub writer : header.writer_id < 2 ^ 16
 
--- The view has a look at the chunk that found it being written by the writer at this place, under this id, with so many fragments finished and with
--- this flag 1.
-pub record PartLooked (view : ServiceView) (chunk place id count flags : ℕ) : Type 0 where
+-- The view has a look at the chunk that found it being written by the writer at this place, at this position, with so many fragments
+-- finished and with this flag 1.
+pub record PartLooked (view : ServiceView) (chunk place position count flags : ℕ) : Type 0 where
   pub found : Found
   pub number : ℕ
   pub look : Look
@@ -113,7 +113,7 @@ pub record PartLooked (view : ServiceView) (chunk place id count flags : ℕ) : 
   pub chunk_is : look.chunk ≡ chunk
   pub found_is : look.found ≡ Some found
   pub place_is : found.place ≡ place
-  pub id_is : found.id ≡ id
+  pub position_is : found.position ≡ position
   pub count_is : length found.ends ≡ count
   pub front : found.head.flags % 2 ≡ flags % 2
   pub is : IsFound found
@@ -121,11 +121,13 @@ pub record PartLooked (view : ServiceView) (chunk place id count flags : ℕ) : 
 -- In told worlds
 
 -- the note of a chunk's finished fragments, where the writer holds it and there are any
-abbrev pub part_of_entry : (place id : ℕ) → BegunChunk → List Noted
-part_of_entry place id (Completed chunk content) = []
-part_of_entry place id (Held chunk draft) = if nat_lt 1 draft.head.count then Partial (sequence_of place) id (draft.head.count - 1) ∷ [] else []
+abbrev pub part_of_entry : (place position : ℕ) → BegunChunk → List Noted
+part_of_entry place position (Completed chunk content) = []
+part_of_entry place position (Held chunk draft) =
+    if nat_lt 1 draft.head.count then Partial (sequence_of place) position (draft.head.count - 1) ∷ [] else []
 
--- what a scrape notes of the writer at this place, by its next chunk, which has the number taken of it as id; others that it holds are skipped
+-- what a scrape notes of the writer at this place, by its next chunk, whose position is the number taken of it; others that it holds are
+-- skipped
 abbrev pub part_held : World → (place : ℕ) → List Noted
 part_held world place =
     part_of_entry place (taken_of world.service place).count
@@ -137,19 +139,20 @@ parts_held setup producer world = flat_map (part_held world) (places_of producer
 
 -- what the writer at this place holds are chunks of its producer
 abbrev pub HoldsOwn : Setup → (place : ℕ) → World → Type 0
-HoldsOwn setup place world = (id chunk : ℕ) (draft : Draft) → At (writer world place).begun id (Held chunk draft) → IsChunkOf setup (producer_of setup place) chunk
+HoldsOwn setup place world = (position chunk : ℕ) (draft : Draft) → At (writer world place).begun position (Held chunk draft)
+    → IsChunkOf setup (producer_of setup place) chunk
 
--- a chunk in this state isn't held by the writer at this place under this id with a finished fragment
-abbrev pub IsntPart : (place id : ℕ) → Status → Type 0
-IsntPart place id state = (draft : Draft) → state ≡ Writing place id draft → draft.head.count < 2
+-- a chunk in this state isn't held by the writer at this place at this position with a finished fragment
+abbrev pub IsntPart : (place position : ℕ) → Status → Type 0
+IsntPart place position state = (draft : Draft) → state ≡ Writing place position draft → draft.head.count < 2
 
 -- the chunk isn't, and nothing but the service's view has changed
-abbrev pub FindsNoPart : (place id chunk : ℕ) → World → Option World → ServiceView → Type 0
-FindsNoPart place id chunk old told view = FindsState (IsntPart place id) chunk old told view
+abbrev pub FindsNoPart : (place position chunk : ℕ) → World → Option World → ServiceView → Type 0
+FindsNoPart place position chunk old told view = FindsState (IsntPart place position) chunk old told view
 
 -- the same of the chunks from one up to another
-abbrev pub FindsNoPartOf : (place id first last : ℕ) → World → Option World → ServiceView → Type 0
-FindsNoPartOf place id first last old told view = FindsEach (IsntPart place id) (IsAmong first last) old told view
+abbrev pub FindsNoPartOf : (place position first last : ℕ) → World → Option World → ServiceView → Type 0
+FindsNoPartOf place position first last old told view = FindsEach (IsntPart place position) (IsAmong first last) old told view
 
 -- what was noted of the writer at this place is what it holds
 pub record NotesPart (place : ℕ) (old : World) (told : Option World) (before view : ServiceView) : Type 0 where

@@ -5,7 +5,7 @@ use Rattle.page_geometry.specs.declared.chunk_header.ChunkHeader.{ChunkHeader}
 use Rattle.page_geometry.specs.declared.chunk_state.ChunkState.TheVariants.{Complete}
 use Rattle.page_geometry.specs.PageBits.{HasState}
 use Rattle.page_geometry.specs.Header.{packed}
-use Rattle.chunk_plain.specs.declared.tokens.TheConstants.{ID_LIMIT}
+use Rattle.chunk_plain.specs.declared.tokens.TheConstants.{POSITION_LIMIT}
 use Rattle.trace_model.specs.Images.{Patch}
 use Rattle.chunk_plain.specs.declared.setup.ChunkRange.{ChunkRange}
 use Rattle.chunk_plain.specs.Setup.{Setup, spot, range_of, producer_of, IsChunkOf, sequence_of}
@@ -13,15 +13,15 @@ use Rattle.chunk_plain.specs.Views.{Content, Look, Taken, Noted, Arrive, Patched
 use Rattle.service_core.specs.Looking.{IsAmong, ShowsFact, SeesFact, SeesEach}
 
 -- the patches of a chunk are noted directly behind its arrival, where it brings any
-abbrev pub patched_where : List Patch → (sequence chunk_id : ℕ) → List Noted
-patched_where [] sequence chunk_id = []
-patched_where (patch ∷ patches) sequence chunk_id = Patched sequence chunk_id ∷ []
+abbrev pub patched_where : List Patch → (sequence position : ℕ) → List Noted
+patched_where [] sequence position = []
+patched_where (patch ∷ patches) sequence position = Patched sequence position ∷ []
 
--- the notes of chunks that are taken of a sequence, in rising id from this one on
-abbrev pub takings : (sequence chunk_id : ℕ) → List Content → List Noted
-takings sequence chunk_id [] = []
-takings sequence chunk_id (content ∷ contents) =
-    Arrive sequence chunk_id ∷ (patched_where content.patches sequence chunk_id ++ takings sequence (suc chunk_id) contents)
+-- the notes of chunks that are taken of a sequence, in rising position from this one on
+abbrev pub takings : (sequence position : ℕ) → List Content → List Noted
+takings sequence position [] = []
+takings sequence position (content ∷ contents) =
+    Arrive sequence position ∷ (patched_where content.patches sequence position ++ takings sequence (suc position) contents)
 
 -- more was taken of a writer
 abbrev pub taken_more : Taken → List Content → Taken
@@ -53,11 +53,11 @@ ShowNone setup producer place count looks =
     (chunk : ℕ) → IsChunkOf setup producer chunk → ShowsOther setup place count chunk looks
 
 -- Where the taking leaves the writer: as many chunks were taken as the producer has; or these looks, behind the last one that was taken, show none
--- that is next; or the writer has no id left.
+-- that is next; or the writer has no position left.
 abbrev pub Leaves : Setup → (place : ℕ) → (count taken : ℕ) → List Look → Type 0
 Leaves setup place count taken looks =
     (taken ≡ (range_of setup (producer_of setup place)).count)
-    ⊎ (ShowNone setup (producer_of setup place) place count looks ⊎ (ID_LIMIT ≤ count))
+    ⊎ (ShowNone setup (producer_of setup place) place count looks ⊎ (POSITION_LIMIT ≤ count))
 
 -- so many complete chunks of the writer at this place were taken, at most as many as its producer has: so a writer that goes on completing
 -- chunks keeps the service busy for one round of them alone

@@ -1,7 +1,7 @@
 -- What the service's calls leave where the table tells its world.
 use Rattle.std.specs.Prelude.{◌≡◌, ℕ, zero, suc, ◌+◌, ◌<◌, ◌≤◌, ◌⊎◌, length, Option, Some}
-use Rattle.chunk_plain.specs.declared.tokens.TheConstants.{ID_LIMIT}
-use Rattle.chunk_plain.specs.Setup.{Setup, range_of, producer_of, IsChunkOf, id_at}
+use Rattle.chunk_plain.specs.declared.tokens.TheConstants.{POSITION_LIMIT}
+use Rattle.chunk_plain.specs.Setup.{Setup, range_of, producer_of, IsChunkOf}
 use Rattle.chunk_plain.specs.Views.{At, Draft, Content, Held, Completed, WriterView, ServiceView, taken_of}
 use Rattle.chunk_plain.specs.World.{World, Status, Unclaimed, Ready, status, writer}
 use Rattle.chunk_plain.specs.Steps.{served, serviced}
@@ -14,10 +14,11 @@ pub record StandsBehind (old : World) (view : ServiceView) (new : World) : Type 
   pub service : new.service ≡ view
   pub chunks : (chunk : ℕ) → (status new chunk ≡ status old chunk) ⊎ (status new chunk ≡ Unclaimed)
 
--- no chunk of the producer waits as the next one of the writer at this place, as long as the writer has an id left for one
+-- no chunk of the producer waits as the next one of the writer at this place, as long as the writer has a position left for one
 abbrev pub NoneNext : Setup → (place : ℕ) → World → Type 0
-NoneNext setup place world = (chunk : ℕ) (content : Content) → IsChunkOf setup (producer_of setup place) chunk → (taken_of world.service place).count < ID_LIMIT
-    → status world chunk ≡ Ready place (id_at setup place (taken_of world.service place).count) content → ⊥
+NoneNext setup place world = (chunk : ℕ) (content : Content) → IsChunkOf setup (producer_of setup place) chunk
+    → (taken_of world.service place).count < POSITION_LIMIT
+    → status world chunk ≡ Ready place (taken_of world.service place).count content → ⊥
 
 -- nor as that of any of the producer's writers
 abbrev pub NoneLeft : Setup → (producer : ℕ) → World → Type 0
@@ -44,16 +45,16 @@ pub record LeavesNext (setup : Setup) (place : ℕ) (old : World) (told : Option
   pub stands : StandsBehind old view new
   pub none : NoneNext setup place new
 
--- the chunk waited as the one with this id of the writer at this place, and is free
-pub record FreesOne (place id chunk : ℕ) (old : World) (told : Option World) (view : ServiceView) : Type 0 where
-  pub ready : ∥ ((content : Content) × (status old chunk ≡ Ready place id content)) ∥₁
+-- the chunk waited as the one at this position of the writer at this place, and is free
+pub record FreesOne (place position chunk : ℕ) (old : World) (told : Option World) (view : ServiceView) : Type 0 where
+  pub ready : ∥ ((content : Content) × (status old chunk ≡ Ready place position content)) ∥₁
   pub told_is : told ≡ Some (served old view chunk Unclaimed)
 
 -- a chunk of the producer did
-pub record FreesNext (setup : Setup) (place id : ℕ) (old : World) (told : Option World) (view : ServiceView) : Type 0 where
+pub record FreesNext (setup : Setup) (place position : ℕ) (old : World) (told : Option World) (view : ServiceView) : Type 0 where
   pub chunk : ℕ
   pub is : IsChunkOf setup (producer_of setup place) chunk
-  pub frees : FreesOne place id chunk old told view
+  pub frees : FreesOne place position chunk old told view
 
 -- the chunk's state is such a one, and nothing but the service's view has changed
 pub record FindsState (IsState : Status → Type 0) (chunk : ℕ) (old : World) (told : Option World) (view : ServiceView) : Type 0 where
@@ -66,17 +67,17 @@ pub record FindsEach (IsState : Status → Type 0) (IsOne : ℕ → Type 0) (old
   pub each : (chunk : ℕ) → IsOne chunk → IsState (status old chunk)
   pub told_is : told ≡ Some (serviced old view)
 
--- a chunk in this state doesn't wait, whatever its content, as the one with this id of the writer at this place
-abbrev pub Isnt : (place id : ℕ) → Status → Type 0
-Isnt place id state = (content : Content) → state ≡ Ready place id content → ⊥
+-- a chunk in this state doesn't wait, whatever its content, as the one at this position of the writer at this place
+abbrev pub Isnt : (place position : ℕ) → Status → Type 0
+Isnt place position state = (content : Content) → state ≡ Ready place position content → ⊥
 
 -- the chunk doesn't, and nothing but the service's view has changed
-abbrev pub FreesNone : (place id chunk : ℕ) → World → Option World → ServiceView → Type 0
-FreesNone place id chunk old told view = FindsState (Isnt place id) chunk old told view
+abbrev pub FreesNone : (place position chunk : ℕ) → World → Option World → ServiceView → Type 0
+FreesNone place position chunk old told view = FindsState (Isnt place position) chunk old told view
 
 -- the same of the chunks from one up to another
-abbrev pub FreesNoneOf : (place id first last : ℕ) → World → Option World → ServiceView → Type 0
-FreesNoneOf place id first last old told view = FindsEach (Isnt place id) (IsAmong first last) old told view
+abbrev pub FreesNoneOf : (place position first last : ℕ) → World → Option World → ServiceView → Type 0
+FreesNoneOf place position first last old told view = FindsEach (Isnt place position) (IsAmong first last) old told view
 
 -- one where the chunk is free
 abbrev pub free_one : Status → ℕ
@@ -97,17 +98,18 @@ pub record FreesSome (setup : Setup) (place taken : ℕ) (old : World) (told : O
 
 -- From what is left to what is ready
 
--- a writer completes its chunks in the order of their ids: none is completed behind one that it holds
+-- a writer completes its chunks in the order of their positions: none is completed behind one that it holds
 abbrev pub CompletesInOrder : WriterView → Type 0
-CompletesInOrder view = (id later about chunk : ℕ) (draft : Draft) (content : Content) → At view.begun id (Held about draft)
-    → At view.begun later (Completed chunk content) → later < id
+CompletesInOrder view = (position later about chunk : ℕ) (draft : Draft) (content : Content) → At view.begun position (Held about draft)
+    → At view.begun later (Completed chunk content) → later < position
 
--- the writers of the producer are at rest, complete their chunks in order, and have begun ids that there are
+-- the writers of the producer are at rest, complete their chunks in order, and have begun at positions that there are
 abbrev pub AreOrderly : Setup → (producer : ℕ) → World → Type 0
 AreOrderly setup producer world = (place : ℕ) → place < length setup.writers → producer_of setup place ≡ producer
-    → IsAtRest setup place (writer world place) × CompletesInOrder (writer world place) × (length (writer world place).begun ≤ ID_LIMIT)
+    → IsAtRest setup place (writer world place) × CompletesInOrder (writer world place)
+    × (length (writer world place).begun ≤ POSITION_LIMIT)
 
 -- no chunk of the producer is ready, of any of its writers
 abbrev pub NoneReady : Setup → (producer : ℕ) → World → Type 0
 NoneReady setup producer world = (place : ℕ) → place < length setup.writers → producer_of setup place ≡ producer
-    → (chunk id : ℕ) (content : Content) → IsChunkOf setup producer chunk → status world chunk ≡ Ready place id content → ⊥
+    → (chunk position : ℕ) (content : Content) → IsChunkOf setup producer chunk → status world chunk ≡ Ready place position content → ⊥

@@ -5,9 +5,10 @@ ghost use Rattle.page_geometry.specs.declared.chunk_header.TheConstants.{MAX_FLA
 ghost use Rattle.chunk_image.specs.Values.{image_value};
 ghost use Rattle.commit_body.specs.Patches.{patch_value};
 ghost use Rattle.trace_model.specs.Arrivals.{image_arrival_of};
+ghost use Rattle.trace_model.specs.Ids.{placed_image, placed_patches};
 ghost use Rattle.trace_buffer.specs.Answers.{arrived_value};
 ghost use Rattle.chunk_plain.specs.Meaning.{IsServiceStep};
-ghost use Rattle.chunk_plain.specs.Setup.{size_of, producer_of};
+ghost use Rattle.chunk_plain.specs.Setup.{size_of, producer_of, from_of};
 ghost use Rattle.chunk_plain.specs.World.{World};
 ghost use Rattle.chunk_plain.specs.Steps.{notes_commit, serviced};
 ghost use Rattle.service_core.specs.Routing.{buffer_at};
@@ -32,7 +33,8 @@ pub struct WrongTarget {
 
 impl<S> ServiceCore<S> {
     /// An image arrives, and then the patches given with it are applied in their order, whatever
-    /// became of the image. A refused patch is passed over.
+    /// became of the image. A refused patch is passed over. Image and patches name chunks by their
+    /// ids, and are noted with positions.
     pub fn commit<W: Words<Service = S>>(
         &mut self,
         table: &mut W,
@@ -57,10 +59,14 @@ impl<S> ServiceCore<S> {
             × (self.new ≡ self.old) × (table.new ≡ table.old) }
         ensures outcome { buffer_of (W.means.setup table.old) (image.now.sequence - FIRST_SEQUENCE) ≡ target
             → IsOkAnd result (λ arrived. arrived_value arrived
-            ≡ image_arrival_of (buffer_at self.old.buffers.items (target - 1)) (image_value image.now)) }
+            ≡ image_arrival_of (buffer_at self.old.buffers.items (target - 1))
+            (placed_image (from_of (W.means.setup table.old) (image.now.sequence - FIRST_SEQUENCE)) (image_value image.now))) }
         ensures noted { buffer_of (W.means.setup table.old) (image.now.sequence - FIRST_SEQUENCE) ≡ target
             → W.means.service_view table.new self.new.seat ≡ notes_commit (W.means.service_view table.old self.old.seat)
-            (record { image = image_value image.now; patches = map patch_value patches.now }) }
+            (let from = from_of (W.means.setup table.old) (image.now.sequence - FIRST_SEQUENCE) in record {
+              image = placed_image from (image_value image.now);
+              patches = placed_patches from (map patch_value patches.now);
+            }) }
         ensures told { (world : World) → W.means.told table.old ≡ Some world
             → W.means.told table.new ≡ Some (serviced world (W.means.service_view table.new self.new.seat)) }
     {

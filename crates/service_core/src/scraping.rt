@@ -3,7 +3,7 @@ ghost use Rattle.std.specs.Prelude.{◌≡◌, ℕ, ◌+◌, ◌-◌, ◌<◌, �
 ghost use Rattle.trace_base.specs.declared.limits.TheConstants.{MAX_FRAGMENTS, MAX_CHUNKS_PER_PAGE};
 ghost use Rattle.page_geometry.specs.declared.chunk_state.ChunkState.TheVariants.{BeingWritten};
 ghost use Rattle.page_geometry.specs.PageBits.{HasState};
-ghost use Rattle.chunk_plain.specs.Setup.{producer_of, IsChunkOf, sequence_of};
+ghost use Rattle.chunk_plain.specs.Setup.{producer_of, IsChunkOf, sequence_of, id_at};
 ghost use Rattle.chunk_plain.specs.Views.{Partial, taken_of};
 ghost use Rattle.chunk_plain.specs.World.{World};
 ghost use Rattle.chunk_plain.specs.Steps.{serviced};
@@ -54,25 +54,29 @@ impl<S> ServiceCore<S> {
         requires open { is_closed (W.means.setup table.old) self.old place ≡ false }
         requires some { 0 < finished }
         requires count { finished ≤ MAX_FRAGMENTS }
-        requires id { header.chunk_id ≡ (taken_of (W.means.service_view table.old self.old.seat) place).count }
-        requires looked { PartLooked (W.means.service_view table.old self.old.seat) chunk place header.chunk_id finished header.flags }
+        requires id { header.chunk_id ≡ id_at (W.means.setup table.old) place
+            (taken_of (W.means.service_view table.old self.old.seat) place).count }
+        requires looked { PartLooked (W.means.service_view table.old self.old.seat) chunk place
+            (taken_of (W.means.service_view table.old self.old.seat) place).count finished header.flags }
         ensures agrees { ServiceAgrees (W.means.setup table.old) (W.means.service_view table.new self.new.seat) self.new }
         ensures keeps { KeepsRest (W.means.setup table.old) self.old self.new }
         ensures step { IsServiceStep W.means table.old self.old.seat table.new self.new.seat }
         ensures view { W.means.service_view table.new self.new.seat
-            ≡ noted_more (W.means.service_view table.old self.old.seat) (Partial (sequence_of place) header.chunk_id finished ∷ []) }
-        ensures part { IsFoundPart (W.means.service_view table.new self.new.seat) (sequence_of place) header.chunk_id finished }
+            ≡ noted_more (W.means.service_view table.old self.old.seat)
+            (Partial (sequence_of place) (taken_of (W.means.service_view table.old self.old.seat) place).count finished ∷ []) }
+        ensures part { IsFoundPart (W.means.service_view table.new self.new.seat) (sequence_of place)
+            (taken_of (W.means.service_view table.old self.old.seat) place).count finished }
         ensures told { (world : World) → W.means.told table.old ≡ Some world
             → W.means.told table.new ≡ Some (serviced world (W.means.service_view table.new self.new.seat)) }
     {
         let sequence = place as u32 + FIRST_SEQUENCE;
         let index = usize::from(self.writers[place].buffer) - 1;
-        let chunk_id = header.chunk_id;
+        let position = self.taken[place];
         let size = self.layout.spot(chunk).payload_size;
         self.room.load(table, &mut self.seat, chunk, size);
         let image = Image {
             sequence,
-            chunk_id,
+            chunk_id: header.chunk_id,
             count: finished,
             flags: header.flags & FIRST_CONTINUES,
             payload: self.room.front(size),
@@ -81,7 +85,7 @@ impl<S> ServiceCore<S> {
         let limit = u64::from(finished);
         let part = ServiceEvent::Partial {
             sequence,
-            chunk_id,
+            chunk_id: position,
             limit,
         };
         table.note(&mut self.seat, part);
@@ -116,7 +120,8 @@ impl<S> ServiceCore<S> {
     {
         let seen = table.look(&mut self.seat, chunk);
         let at = self.layout.spot(chunk).place;
-        match part_in(seen, at, place as u16 + 1, self.taken[place]) {
+        let next = self.layout.id_at(place as u16, self.taken[place]);
+        match part_in(seen, at, place as u16 + 1, next) {
             Some(finished) => {
                 self.put_part(table, place, chunk, seen.header, finished);
                 true

@@ -1,20 +1,20 @@
 //! Taking complete chunks.
 ghost use Rattle.std.specs.Prelude.{◌≡◌, ℕ, ◌+◌, ◌-◌, ◌*◌, ◌^◌, ◌<◌, ◌≤◌, true, false, Some, None, IfSome, IsSome, List, [], ◌∷◌, length, vec_len, map, slice_set, slice_index_or};
 ghost use Rattle.trace_base.specs.declared.limits.TheConstants.{MAX_FRAGMENTS, MAX_WRITERS, FIRST_SEQUENCE};
-ghost use Rattle.chunk_plain.specs.declared.tokens.TheConstants.{ID_LIMIT};
+ghost use Rattle.chunk_plain.specs.declared.tokens.TheConstants.{POSITION_LIMIT};
 ghost use Rattle.page_geometry.specs.declared.chunk_header.TheConstants.{MAX_FLAGS};
 ghost use Rattle.page_geometry.specs.Sizes.{record_size};
 ghost use Rattle.commit_body.specs.Patches.{patch_value};
 ghost use Rattle.trace_model.specs.History as model;
 ghost use Rattle.trace_model.specs.History.{buffers_after};
-ghost use Rattle.chunk_plain.specs.Setup.{spot, range_of, producer_of, IsChunkOf, sequence_of};
+ghost use Rattle.chunk_plain.specs.Setup.{spot, range_of, producer_of, IsChunkOf, sequence_of, id_at, from_of};
 ghost use Rattle.chunk_plain.specs.Views.{taken_of};
 ghost use Rattle.chunk_plain.specs.Owned.{times};
 ghost use Rattle.chunk_plain.specs.World.{World, Unclaimed};
 ghost use Rattle.chunk_plain.specs.Steps.{lets_go, served, serviced};
 ghost use Rattle.chunk_plain.specs.Words.{taken_content};
 ghost use Rattle.chunk_plain.specs.Meaning.{IsServiceStep};
-ghost use Rattle.service_core.specs.Routing.{IsAt, is_closed_at, arrivals_of};
+ghost use Rattle.service_core.specs.Routing.{IsAt, is_closed_at, arrivals_of, from_at};
 ghost use Rattle.service_core.specs.Agreement.{ServiceAgrees, KeepsFields, KeepsRest, IsOpen, is_closed, spec_at};
 ghost use Rattle.service_core.specs.Taking.{patched_where, takings, noted_more, TakesOne, SeesOther, IsRange, TakesNext, SeesNone, SeesNoneOf, TakesOf, Takes, places_of};
 ghost use Rattle.service_core.specs.Told.{FreesOne, FreesNone, FreesNext, FreesNoneOf, LeavesNext, LeavesNone};
@@ -22,7 +22,7 @@ ghost use Rattle.service_core.specs.Told.{FreesOne, FreesNone, FreesNext, FreesN
 use crate::routing::{arrive_in, patch_in};
 use crate::service::ServiceCore;
 use chunk_image::Image;
-use chunk_plain::{ID_LIMIT, ServiceEvent, Taken, Words};
+use chunk_plain::{POSITION_LIMIT, ServiceEvent, Taken, Words};
 use commit_body::Patch;
 use page_geometry::ChunkHeader;
 use trace_base::limits::FIRST_SEQUENCE;
@@ -38,45 +38,57 @@ fn note_patches<W: Words>(
     table: &mut W,
     seat: &mut W::Service,
     sequence: u32,
-    chunk_id: u32,
+    position: u32,
     patches: &[Patch],
 )
     requires { W.means.serves table.old seat.old }
     ensures view { W.means.service_view table.new seat.new
-        ≡ noted_more (W.means.service_view table.old seat.old) (patched_where (map patch_value patches.now) sequence chunk_id) }
+        ≡ noted_more (W.means.service_view table.old seat.old) (patched_where (map patch_value patches.now) sequence position) }
     ensures step { IsServiceStep W.means table.old seat.old table.new seat.new }
     ensures told { (world : World) → W.means.told table.old ≡ Some world
         → W.means.told table.new ≡ Some (serviced world (W.means.service_view table.new seat.new)) }
 {
     if !patches.is_empty() {
+        let chunk_id = position;
         table.note(seat, ServiceEvent::Patched { sequence, chunk_id });
     }
 }
 
 impl<S> ServiceCore<S> {
-    /// Puts a chunk that was taken into its writer's buffer, notes that, and gives the chunk back.
-    fn take_in<W: Words<Service = S>>(&mut self, table: &mut W, place: usize, taken: Taken)
+    /// Puts a chunk that was taken as the one at this position into its writer's buffer, notes that,
+    /// and gives the chunk back.
+    fn take_in<W: Words<Service = S>>(
+        &mut self,
+        table: &mut W,
+        place: usize,
+        position: u32,
+        taken: Taken,
+    )
         requires serves { W.means.serves table.old self.old.seat }
         requires reading { 0 < times taken.chunk (W.means.service_view table.old self.old.seat).reading }
         requires whole { vec_len taken.body.payload ≡ (spot (W.means.setup table.old) taken.chunk).payload_size }
         requires count { taken.header.count ≤ MAX_FRAGMENTS }
         requires flags { taken.header.flags ≤ MAX_FLAGS }
-        requires id { taken.header.chunk_id < ID_LIMIT }
+        requires id { taken.header.chunk_id ≡ id_at (W.means.setup table.old) place position }
+        requires position { position < POSITION_LIMIT }
         requires place { place < length self.old.taken.items }
         requires writer { place < length self.old.writers.items }
         requires few { place < MAX_WRITERS }
         requires buffer { 1 ≤ (spec_at self.old.writers.items place).buffer }
         requires at { IsAt self.old.buffers.items ((spec_at self.old.writers.items place).buffer - 1) (sequence_of place)
             (record_size (vec_len taken.body.payload)) }
+        requires from { from_at self.old.buffers.items ((spec_at self.old.writers.items place).buffer - 1) (sequence_of place)
+            ≡ from_of (W.means.setup table.old) place }
         requires open { is_closed_at self.old.buffers.items ((spec_at self.old.writers.items place).buffer - 1) (sequence_of place)
             ≡ false }
         ensures view { W.means.service_view table.new self.new.seat
             ≡ lets_go (noted_more (W.means.service_view table.old self.old.seat)
-            (takings (sequence_of place) taken.header.chunk_id (taken_content place taken ∷ []))) taken.chunk }
+            (takings (sequence_of place) position (taken_content (W.means.setup table.old) place position taken ∷ []))) taken.chunk }
         ensures buffers { self.new.buffers.items
-            ≡ buffers_after (buffers_after self.old.buffers.items (arrivals_of (taken_content place taken).image))
-            (model.Patched (sequence_of place) (taken_content place taken).patches ∷ []) }
-        ensures taken { self.new.taken.items ≡ slice_set self.old.taken.items place (taken.header.chunk_id + 1) }
+            ≡ buffers_after (buffers_after self.old.buffers.items
+            (arrivals_of (taken_content (W.means.setup table.old) place position taken).image))
+            (model.Patched (sequence_of place) (taken_content (W.means.setup table.old) place position taken).patches ∷ []) }
+        ensures taken { self.new.taken.items ≡ slice_set self.old.taken.items place (position + 1) }
         ensures fields { KeepsFields self.old self.new }
         ensures step { IsServiceStep W.means table.old self.old.seat table.new self.new.seat }
         ensures told { (world : World) → W.means.told table.old ≡ Some world
@@ -84,10 +96,9 @@ impl<S> ServiceCore<S> {
     {
         let sequence = place as u32 + FIRST_SEQUENCE;
         let index = usize::from(self.writers[place].buffer) - 1;
-        let id = taken.header.chunk_id;
         let image = Image {
             sequence,
-            chunk_id: id,
+            chunk_id: taken.header.chunk_id,
             count: taken.header.count,
             flags: taken.header.flags,
             payload: &taken.body.payload,
@@ -95,33 +106,33 @@ impl<S> ServiceCore<S> {
         arrive_in(&mut self.buffers, index, &image);
         let arrival = ServiceEvent::Arrive {
             sequence,
-            chunk_id: id,
+            chunk_id: position,
         };
         table.note(&mut self.seat, arrival);
         let patches = taken.body.patches.as_slice();
         patch_in(&mut self.buffers, index, sequence, patches);
-        note_patches(table, &mut self.seat, sequence, id, patches);
-        self.taken[place] = id + 1;
+        note_patches(table, &mut self.seat, sequence, position, patches);
+        self.taken[place] = position + 1;
         table.release(&mut self.seat, taken);
     }
 }
 
 impl<S> ServiceCore<S> {
-    /// Takes a chunk where it is the next one of the writer at this place, which has this id.
+    /// Takes a chunk where it is the next one of the writer at this place, which has this position.
     fn try_take<W: Words<Service = S>>(
         &mut self,
         table: &mut W,
         place: usize,
         chunk: u32,
-        id: u32,
+        position: u32,
     ) -> bool
         requires serves { W.means.serves table.old self.old.seat }
         requires agrees { ServiceAgrees (W.means.setup table.old) (W.means.service_view table.old self.old.seat) self.old }
         requires place { place < length (W.means.setup table.old).writers }
         requires chunk { IsChunkOf (W.means.setup table.old) (producer_of (W.means.setup table.old) place) chunk }
         requires open { is_closed (W.means.setup table.old) self.old place ≡ false }
-        requires next { id ≡ (taken_of (W.means.service_view table.old self.old.seat) place).count }
-        requires id { id < ID_LIMIT }
+        requires next { position ≡ (taken_of (W.means.service_view table.old self.old.seat) place).count }
+        requires position { position < POSITION_LIMIT }
         ensures agrees { ServiceAgrees (W.means.setup table.old) (W.means.service_view table.new self.new.seat) self.new }
         ensures keeps { KeepsRest (W.means.setup table.old) self.old self.new }
         ensures step { IsServiceStep W.means table.old self.old.seat table.new self.new.seat }
@@ -136,9 +147,10 @@ impl<S> ServiceCore<S> {
             → FreesNone place (taken_of (W.means.service_view table.old self.old.seat) place).count chunk world
             (W.means.told table.new) (W.means.service_view table.new self.new.seat) }
     {
+        let id = self.layout.id_at(place as u16, position);
         match table.take(&mut self.seat, chunk, place as u16 + 1, id) {
             Ok(taken) => {
-                self.take_in(table, place, taken);
+                self.take_in(table, place, position, taken);
                 true
             }
             Err(found) => {
@@ -166,7 +178,7 @@ impl<S> ServiceCore<S> {
             → IsChunkOf (W.means.setup table.old) (producer_of (W.means.setup table.old) place) chunk }
         requires order { first ≤ last }
         requires open { is_closed (W.means.setup table.old) self.old place ≡ false }
-        requires id { (taken_of (W.means.service_view table.old self.old.seat) place).count < ID_LIMIT }
+        requires position { (taken_of (W.means.service_view table.old self.old.seat) place).count < POSITION_LIMIT }
         ensures agrees { ServiceAgrees (W.means.setup table.old) (W.means.service_view table.new self.new.seat) self.new }
         ensures keeps { KeepsRest (W.means.setup table.old) self.old self.new }
         ensures step { IsServiceStep W.means table.old self.old.seat table.new self.new.seat }
@@ -182,9 +194,9 @@ impl<S> ServiceCore<S> {
             → FreesNoneOf place (taken_of (W.means.service_view table.old self.old.seat) place).count first last world
             (W.means.told table.new) (W.means.service_view table.new self.new.seat) }
     {
-        let id = self.taken[place];
+        let position = self.taken[place];
         for chunk in first..last {
-            if self.try_take(table, place, chunk, id) {
+            if self.try_take(table, place, chunk, position) {
                 return Some(chunk);
             }
         }
@@ -208,7 +220,7 @@ impl<S> ServiceCore<S> {
         requires range { IsRange (range_of (W.means.setup table.old) (producer_of (W.means.setup table.old) place)) first count }
         requires from { (first ≤ from) × (from ≤ first + count) }
         requires open { is_closed (W.means.setup table.old) self.old place ≡ false }
-        requires id { (taken_of (W.means.service_view table.old self.old.seat) place).count < ID_LIMIT }
+        requires position { (taken_of (W.means.service_view table.old self.old.seat) place).count < POSITION_LIMIT }
         ensures agrees { ServiceAgrees (W.means.setup table.old) (W.means.service_view table.new self.new.seat) self.new }
         ensures keeps { KeepsRest (W.means.setup table.old) self.old self.new }
         ensures step { IsServiceStep W.means table.old self.old.seat table.new self.new.seat }
@@ -248,7 +260,7 @@ impl<S> ServiceCore<S> {
         let (first, count) = self.layout.chunks_of(self.writers[place].producer);
         let mut from = first;
         for taken in 0..count {
-            if self.taken[place] == ID_LIMIT {
+            if self.taken[place] == POSITION_LIMIT {
                 return taken;
             }
             match self.take_next(table, place, first, count, from) {

@@ -10,6 +10,7 @@ const WRITER: WriterSpec = WriterSpec {
     producer: 1,
     buffer: 1,
     policy: WriterPolicy::Drops,
+    from: 0,
 };
 
 #[derive(Clone, Copy, Debug, PartialEq, Eq)]

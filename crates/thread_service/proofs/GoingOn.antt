@@ -43,16 +43,16 @@ front_get xs ys i x front is = subst (λ l. slice_get l i ≡ Some x) (sym front
 goes_grows : (old new : ServiceView) → GoesOn old new → Grows old new
 goes_grows old new goes = record {
   contents = λ s i content is. front_get (taken_of old (s - 2)).contents (taken_of new (s - 2)).contents i content (goes.contents (s - 2)) is;
-  looks = λ place id count found is.
-      subst (λ (ls : List Look). found_among place id count ls ≡ Some found) (sym goes.looks.is) (found_more place id count old.looks goes.looks.rest found is);
+  looks = λ place position count found is.
+      subst (λ (ls : List Look). found_among place position count ls ≡ Some found) (sym goes.looks.is) (found_more place position count old.looks goes.looks.rest found is);
   commits = λ place committed is. front_get old.commits new.commits place committed goes.commits is;
 }
 
 silent_of : (all : List Noted) → All NoRead all → AreSilent all
 silent_of [] none = tt
-silent_of (Arrive q id ∷ all) none = silent_of all (All-tail NoRead (Arrive q id) all none)
-silent_of (Partial q id count ∷ all) none = silent_of all (All-tail NoRead (Partial q id count) all none)
-silent_of (Patched q id ∷ all) none = silent_of all (All-tail NoRead (Patched q id) all none)
+silent_of (Arrive q position ∷ all) none = silent_of all (All-tail NoRead (Arrive q position) all none)
+silent_of (Partial q position count ∷ all) none = silent_of all (All-tail NoRead (Partial q position count) all none)
+silent_of (Patched q position ∷ all) none = silent_of all (All-tail NoRead (Patched q position) all none)
 silent_of (Closed q ∷ all) none = silent_of all (All-tail NoRead (Closed q) all none)
 silent_of (Read q limit ∷ all) none = All-head NoRead (Read q limit) all none tt
 silent_of (Commit at ∷ all) none = silent_of all (All-tail NoRead (Commit at) all none)
@@ -63,19 +63,19 @@ goes_adds old new goes = record { grows = goes_grows old new goes; notes = goes.
 
 -- ---- and events that are no reads
 
-arrival_unread : (q id : ℕ) (content : Option Content) → flat_map noted_read (arrival_of q id content) ≡ []
-arrival_unread q id None = refl
-arrival_unread q id (Some content) = by_reading (reading_of content.image.count content.image.payload)
+arrival_unread : (q position : ℕ) (content : Option Content) → flat_map noted_read (arrival_of q position content) ≡ []
+arrival_unread q position None = refl
+arrival_unread q position (Some content) = by_reading (reading_of content.image.count content.image.payload)
   where
-    by_reading : (reading : Reading) → flat_map noted_read (once_read (λ chunk. model.Arrives q id chunk) content.image.flags reading) ≡ []
+    by_reading : (reading : Reading) → flat_map noted_read (once_read (λ chunk. model.Arrives q position chunk) content.image.flags reading) ≡ []
     by_reading (Fragments fragments) = refl
     by_reading (Unreadable number) = refl
 
-part_unread : (q id count : ℕ) (found : Option Found) → flat_map noted_read (part_of q id count found) ≡ []
-part_unread q id count None = refl
-part_unread q id count (Some found) = by_reading (reading_of count found.sealed)
+part_unread : (q position count : ℕ) (found : Option Found) → flat_map noted_read (part_of q position count found) ≡ []
+part_unread q position count None = refl
+part_unread q position count (Some found) = by_reading (reading_of count found.sealed)
   where
-    by_reading : (reading : Reading) → flat_map noted_read (once_read (λ chunk. model.ArrivesInPart q id chunk) found.head.flags reading) ≡ []
+    by_reading : (reading : Reading) → flat_map noted_read (once_read (λ chunk. model.ArrivesInPart q position chunk) found.head.flags reading) ≡ []
     by_reading (Fragments fragments) = refl
     by_reading (Unreadable number) = refl
 
@@ -93,13 +93,13 @@ unread_both xs ys first second =
 
 silent_unread : (view : ServiceView) (all : List Noted) → AreSilent all → flat_map noted_read (flat_map (happened view) all) ≡ []
 silent_unread view [] silent = refl
-silent_unread view (Arrive q id ∷ all) silent =
-    unread_both (happened view (Arrive q id)) (flat_map (happened view) all) (arrival_unread q id (content_at view q id)) (silent_unread view all silent)
-silent_unread view (Partial q id count ∷ all) silent =
-    unread_both (happened view (Partial q id count)) (flat_map (happened view) all) (part_unread q id count (found_among (q - 2) id count view.looks))
+silent_unread view (Arrive q position ∷ all) silent =
+    unread_both (happened view (Arrive q position)) (flat_map (happened view) all) (arrival_unread q position (content_at view q position)) (silent_unread view all silent)
+silent_unread view (Partial q position count ∷ all) silent =
+    unread_both (happened view (Partial q position count)) (flat_map (happened view) all) (part_unread q position count (found_among (q - 2) position count view.looks))
     (silent_unread view all silent)
-silent_unread view (Patched q id ∷ all) silent =
-    unread_both (happened view (Patched q id)) (flat_map (happened view) all) (patches_unread q (content_at view q id)) (silent_unread view all silent)
+silent_unread view (Patched q position ∷ all) silent =
+    unread_both (happened view (Patched q position)) (flat_map (happened view) all) (patches_unread q (content_at view q position)) (silent_unread view all silent)
 silent_unread view (Closed q ∷ all) silent = silent_unread view all silent
 silent_unread view (Read q limit ∷ all) silent = absurd silent
 silent_unread view (Commit at ∷ all) silent =
@@ -130,8 +130,8 @@ goes_same_history old new known goes none =
 -- events without a read write no record
 unread_records : (buffers : List Buffer) (events : List model.Event) → flat_map noted_read events ≡ [] → records_after buffers events ≡ []
 unread_records buffers [] none = refl
-unread_records buffers (model.Arrives q id chunk ∷ events) none = unread_records (buffers_after buffers (model.Arrives q id chunk ∷ [])) events none
-unread_records buffers (model.ArrivesInPart q id chunk ∷ events) none = unread_records (buffers_after buffers (model.ArrivesInPart q id chunk ∷ [])) events none
+unread_records buffers (model.Arrives q position chunk ∷ events) none = unread_records (buffers_after buffers (model.Arrives q position chunk ∷ [])) events none
+unread_records buffers (model.ArrivesInPart q position chunk ∷ events) none = unread_records (buffers_after buffers (model.ArrivesInPart q position chunk ∷ [])) events none
 unread_records buffers (model.Patched q patches ∷ events) none = unread_records (buffers_after buffers (model.Patched q patches ∷ [])) events none
 unread_records buffers (model.Committed image patches ∷ events) none = unread_records (buffers_after buffers (model.Committed image patches ∷ [])) events none
 unread_records buffers (model.Closed q ∷ events) none = unread_records (buffers_after buffers (model.Closed q ∷ [])) events none
@@ -169,7 +169,7 @@ goes_takes : (setup : Setup) (chunk writer id : ℕ) (taken : TakenToken) (old n
 goes_takes setup chunk writer id taken old new takes =
     let seen = looks_at old chunk takes.word (packed taken.header) None in
     let read = takes_in seen (writer - 1) chunk in
-    let content = taken_content (writer - 1) taken in
+    let content = taken_content setup (writer - 1) (taken_of old (writer - 1)).count taken in
     subst (λ (v : ServiceView). GoesOn old v) (sym takes.view)
     (goes_further old read (learns read (writer - 1) content)
     (goes_further old seen read (goes_look old chunk takes.word (packed taken.header) None) (goes_take seen (writer - 1) chunk))
@@ -190,9 +190,9 @@ letters_taking setup chunk writer id (Err found) old new takes finds = ap (λ (v
 -- a read is noted as one
 pub event_read : (noted : ServiceEvent) → IsReadEvent noted → IsReadNote (event_of noted)
 event_read (event.Read sequence limit) read = tt
-event_read (event.Arrive sequence chunk_id) read = absurd read
-event_read (event.Partial sequence chunk_id limit) read = absurd read
-event_read (event.Patched sequence chunk_id) read = absurd read
+event_read (event.Arrive sequence position) read = absurd read
+event_read (event.Partial sequence position limit) read = absurd read
+event_read (event.Patched sequence position) read = absurd read
 event_read (event.Closed sequence) read = absurd read
 
 -- ---- lists of reads
@@ -212,8 +212,8 @@ none_of_both (x ∷ xs) all none = absurd (All-head NoRead x xs none (All-head I
 
 pub noted_are_reads : (events : List model.Event) → All IsReadNote (flat_map noted_read events)
 noted_are_reads [] = All-nil IsReadNote
-noted_are_reads (model.Arrives q id chunk ∷ events) = noted_are_reads events
-noted_are_reads (model.ArrivesInPart q id chunk ∷ events) = noted_are_reads events
+noted_are_reads (model.Arrives q position chunk ∷ events) = noted_are_reads events
+noted_are_reads (model.ArrivesInPart q position chunk ∷ events) = noted_are_reads events
 noted_are_reads (model.Patched q patches ∷ events) = noted_are_reads events
 noted_are_reads (model.Committed image patches ∷ events) = noted_are_reads events
 noted_are_reads (model.Closed q ∷ events) = noted_are_reads events
@@ -233,9 +233,9 @@ knows_further before view next knows goes = record {
 }
 
 one_known : (view : ServiceView) (note : Noted) → IsReadNote note → AreKnownNotes view (note ∷ [])
-one_known view (Arrive q id) read = absurd read
-one_known view (Partial q id count) read = absurd read
-one_known view (Patched q id) read = absurd read
+one_known view (Arrive q position) read = absurd read
+one_known view (Partial q position count) read = absurd read
+one_known view (Patched q position) read = absurd read
 one_known view (Closed q) read = absurd read
 one_known view (Read q limit) read = (tt, tt)
 one_known view (Commit at) read = absurd read

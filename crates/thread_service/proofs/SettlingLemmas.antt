@@ -6,7 +6,7 @@ use Rattle.std.proofs.lemmas.Bool.{cases_eq, eq-eqb, ne_eqb}
 use Rattle.std.proofs.lemmas.List.Elements.{All-nil, All-cons, All-append}
 use Rattle.trace_base.proofs.Lists.{get_behind}
 use Rattle.trace_base.specs.declared.policy.WriterSpec.{WriterSpec}
-use Rattle.chunk_plain.specs.declared.tokens.TheConstants.{ID_LIMIT}
+use Rattle.chunk_plain.specs.declared.tokens.TheConstants.{POSITION_LIMIT}
 use Rattle.chunk_plain.specs.Setup.{Setup, range_of, producer_of, IsChunkOf}
 use Rattle.chunk_plain.specs.Views.{At, Completed, Content, Look, Taken, none_taken, ServiceView, taken_of}
 use Rattle.chunk_words.specs.Knows.{Desk, Tale}
@@ -153,7 +153,7 @@ seen_one setup place taken old new one none some = record {
 }
   where
     by_leave : Leaves setup place (taken_of new place).count taken one.looks
-        → ShowNone setup (producer_of setup place) place (taken_of new place).count one.looks ⊎ (ID_LIMIT ≤ (taken_of new place).count)
+        → ShowNone setup (producer_of setup place) place (taken_of new place).count one.looks ⊎ (POSITION_LIMIT ≤ (taken_of new place).count)
     by_leave (inl full) = absurd (omega (arith, full, none, some))
     by_leave (inr rest) = rest
 
@@ -171,8 +171,8 @@ seen_more setup since place old new more seen grown same = record {
     count_is : (taken_of new place).count ≡ (taken_of old place).count
     count_is = ap (λ (t : Taken). t.count) same
 
-    by_case : ShowNone setup (producer_of setup place) place (taken_of old place).count seen.looks ⊎ (ID_LIMIT ≤ (taken_of old place).count)
-        → ShowNone setup (producer_of setup place) place (taken_of new place).count (seen.looks ++ more) ⊎ (ID_LIMIT ≤ (taken_of new place).count)
+    by_case : ShowNone setup (producer_of setup place) place (taken_of old place).count seen.looks ⊎ (POSITION_LIMIT ≤ (taken_of old place).count)
+        → ShowNone setup (producer_of setup place) place (taken_of new place).count (seen.looks ++ more) ⊎ (POSITION_LIMIT ≤ (taken_of new place).count)
     by_case (inl shown) =
         inl (λ chunk is. subst (λ (n : ℕ). ShowsOther setup place n chunk (seen.looks ++ more)) (sym count_is)
         (shows_left IsOther setup place (taken_of old place).count chunk seen.looks more (shown chunk is)))
@@ -229,12 +229,12 @@ seen_next setup since number old new order before takes seen place inside below 
 -- All that a writer told of is taken, where looks since show that none of it is left.
 pub told_out : (setup : Setup) (since i : ℕ) (view : ServiceView) (desk : Desk) (tale : Tale) → ShowsAllTold setup view desk → At desk.told i tale
     → tale.looks ≤ since → IsSeenOut setup since tale.place view
-    → ((id : ℕ) → id < length tale.begun → (chunk : ℕ) × (content : Content) × At tale.begun id (Completed chunk content))
+    → ((position : ℕ) → position < length tale.begun → (chunk : ℕ) × (content : Content) × At tale.begun position (Completed chunk content))
     → ((chunk : ℕ) (content : Content) → At tale.begun (taken_of view tale.place).count (Completed chunk content) → IsChunkOf setup (producer_of setup tale.place) chunk)
-    → length tale.begun ≤ ID_LIMIT → length tale.begun ≤ (taken_of view tale.place).count
+    → length tale.begun ≤ POSITION_LIMIT → length tale.begun ≤ (taken_of view tale.place).count
 told_out setup since i view desk tale shows told heard seen complete own few = by_case seen.none
   where
-    by_case : ShowNone setup (producer_of setup tale.place) tale.place (taken_of view tale.place).count seen.looks ⊎ (ID_LIMIT ≤ (taken_of view tale.place).count)
+    by_case : ShowNone setup (producer_of setup tale.place) tale.place (taken_of view tale.place).count seen.looks ⊎ (POSITION_LIMIT ≤ (taken_of view tale.place).count)
         → length tale.begun ≤ (taken_of view tale.place).count
     by_case (inr out) = omega (arith, out, few)
     by_case (inl shown) =

@@ -75,8 +75,8 @@ module _ (view : ServiceView) (letters : List Letter) where
 
   grows_letters : Grows view other
   grows_letters = record {
-    contents = λ q id content is. is;
-    looks = λ place id count found is. is;
+    contents = λ q position content is. is;
+    looks = λ place position count found is. is;
     commits = λ place committed is. is;
   }
 

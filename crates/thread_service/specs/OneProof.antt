@@ -75,9 +75,9 @@ patched_prop {C} {P} {Q} set o one other u v =
     let same = single_prop {P = λ (c : C). P c × Q c} set o (λ c. ×_prop (one c) (other c)) (u.0, (u.1, (u.2, u.3))) (v.0, (v.1, (v.2, v.3))) in
     λ i. ((same i).0, (same i).1.0, (same i).1.1.0, (same i).1.1.1)
 
-part_prop : (view : ServiceView) (sequence chunk_id count : ℕ) → IsProp (IsFoundPart view sequence chunk_id count)
-part_prop view sequence chunk_id count u v =
-    let same = single_prop {P = λ (found : Found). 0 < length found.ends} Found-set (found_among (sequence - FIRST_SEQUENCE) chunk_id count view.looks) (λ found. le_prop) (u.found, (u.looked, u.some)) (v.found, (v.looked, v.some)) in
+part_prop : (view : ServiceView) (sequence position count : ℕ) → IsProp (IsFoundPart view sequence position count)
+part_prop view sequence position count u v =
+    let same = single_prop {P = λ (found : Found). 0 < length found.ends} Found-set (found_among (sequence - FIRST_SEQUENCE) position count view.looks) (λ found. le_prop) (u.found, (u.looked, u.some)) (v.found, (v.looked, v.some)) in
     λ i. record { found = (same i).0; looked = (same i).1.0; some = (same i).1.1 }
 
 elsewhere_prop : (view : ServiceView) (sequence place : ℕ) → IsProp (CommitsElsewhere view sequence place)
@@ -89,18 +89,18 @@ Patches-set = Coded-set (Prim.hlevel codes)
 lead_to_prop : (view : ServiceView) (sequence : ℕ) (stage : Stage) (notes : List Noted) (last : Stage)
     → IsProp (LeadTo view sequence stage notes last)
 lead_to_prop view sequence stage [] last = Stage-set stage last
-lead_to_prop view sequence stage (Arrive other chunk_id ∷ notes) last =
+lead_to_prop view sequence stage (Arrive other position ∷ notes) last =
     ×_prop (Patches-set stage.due []) (choice_prop (other == sequence)
-    (come_prop (Prim.hlevel props) (Prim.hlevel props) Content-set (content_at view sequence chunk_id)
+    (come_prop (Prim.hlevel props) (Prim.hlevel props) Content-set (content_at view sequence position)
     (λ content. lead_to_prop view sequence _ notes last))
     (lead_to_prop view sequence stage notes last))
-lead_to_prop view sequence stage (Partial other chunk_id count ∷ notes) last =
+lead_to_prop view sequence stage (Partial other position count ∷ notes) last =
     ×_prop (Patches-set stage.due []) (choice_prop (other == sequence)
     (let later = lead_to_prop view sequence stage notes last in Prim.hlevel (props, part_prop, later))
     (lead_to_prop view sequence stage notes last))
-lead_to_prop view sequence stage (Patched other chunk_id ∷ notes) last =
+lead_to_prop view sequence stage (Patched other position ∷ notes) last =
     choice_prop (other == sequence)
-    (patched_prop Content-set (content_at view sequence chunk_id) (λ content. Patches-set content.patches stage.due)
+    (patched_prop Content-set (content_at view sequence position) (λ content. Patches-set content.patches stage.due)
     (λ content. lead_to_prop view sequence _ notes last))
     (×_prop (Patches-set stage.due []) (lead_to_prop view sequence stage notes last))
 lead_to_prop view sequence stage (Closed other ∷ notes) last =
@@ -113,9 +113,9 @@ lead_to_prop view sequence stage (Commit place ∷ notes) last =
     Prim.hlevel (props, Patches-set, elsewhere_prop, later)
 
 known_note_prop : (view : ServiceView) (note : Noted) → IsProp (IsKnownNote view note)
-known_note_prop view (Arrive sequence chunk_id) = named_prop Content-set (content_at view sequence chunk_id)
-known_note_prop view (Partial sequence chunk_id count) = named_prop Found-set (found_among (sequence - FIRST_SEQUENCE) chunk_id count view.looks)
-known_note_prop view (Patched sequence chunk_id) = named_prop Content-set (content_at view sequence chunk_id)
+known_note_prop view (Arrive sequence position) = named_prop Content-set (content_at view sequence position)
+known_note_prop view (Partial sequence position count) = named_prop Found-set (found_among (sequence - FIRST_SEQUENCE) position count view.looks)
+known_note_prop view (Patched sequence position) = named_prop Content-set (content_at view sequence position)
 known_note_prop view (Closed sequence) = Unit-prop
 known_note_prop view (Read sequence limit) = Unit-prop
 known_note_prop view (Commit place) = named_prop Committed-set (slice_get view.commits place)

@@ -1,20 +1,21 @@
 -- What the service has taken of what writers told it, once they are done.
 use Rattle.std.specs.Prelude.{◌≡◌, ℕ, zero, suc, ◌<◌, ◌≤◌, ◌⊎◌, List, [], ◌∷◌, ◌++◌, length}
 use Rattle.std.specs.List.{All}
-use Rattle.chunk_plain.specs.declared.tokens.TheConstants.{ID_LIMIT}
+use Rattle.chunk_plain.specs.declared.tokens.TheConstants.{POSITION_LIMIT}
 use Rattle.chunk_plain.specs.Setup.{Setup, producer_of, IsChunkOf}
 use Rattle.chunk_plain.specs.Views.{At, BegunChunk, chunk_of, Completed, Content, Look, ServiceView, taken_of}
 use Rattle.chunk_words.specs.Knows.{Tale}
 use Rattle.service_core.specs.Taking.{ShowNone, Takes, places_of}
 
 -- Looks from this one on show of each chunk of the writer's producer that it isn't the next one to be taken of this writer, of which so
--- many are taken; or the writer has no id left.
+-- many are taken; or the writer has no position left.
 pub record IsSeenOut (setup : Setup) (since place : ℕ) (view : ServiceView) : Type 0 where
   pub before : List Look
   pub looks : List Look
   pub all : view.looks ≡ before ++ looks
   pub late : since ≤ length before
-  pub none : ShowNone setup (producer_of setup place) place (taken_of view place).count looks ⊎ (ID_LIMIT ≤ (taken_of view place).count)
+  pub none : ShowNone setup (producer_of setup place) place (taken_of view place).count looks
+      ⊎ (POSITION_LIMIT ≤ (taken_of view place).count)
 
 -- each writer of the producers up to this number
 abbrev pub AreSeenOut : Setup → (since number : ℕ) → ServiceView → Type 0
@@ -43,6 +44,8 @@ TakesAllOut setup (suc number) old new = (between : ServiceView) × TakesAllOut 
 pub record IsWholeTale (setup : Setup) (view : ServiceView) (tale : Tale) : Type 0 where
   pub inside : tale.place < length setup.writers
   pub heard : tale.looks ≤ length view.looks
-  pub complete : (id : ℕ) → id < length tale.begun → (chunk : ℕ) × (content : Content) × At tale.begun id (Completed chunk content)
-  pub own : (id : ℕ) (entry : BegunChunk) → At tale.begun id entry → IsChunkOf setup (producer_of setup tale.place) (chunk_of entry)
-  pub few : length tale.begun ≤ ID_LIMIT
+  pub complete : (position : ℕ) → position < length tale.begun
+      → (chunk : ℕ) × (content : Content) × At tale.begun position (Completed chunk content)
+  pub own : (position : ℕ) (entry : BegunChunk) → At tale.begun position entry
+      → IsChunkOf setup (producer_of setup tale.place) (chunk_of entry)
+  pub few : length tale.begun ≤ POSITION_LIMIT

@@ -5,8 +5,9 @@ ghost use Rattle.page_geometry.specs.declared.chunk_header.TheConstants.{MAX_FLA
 ghost use Rattle.chunk_image.specs.Values.{image_value};
 ghost use Rattle.commit_body.specs.Patches.{patch_value};
 ghost use Rattle.trace_model.specs.Arrivals.{image_arrival_of};
+ghost use Rattle.trace_model.specs.Ids.{placed_image, placed_patches};
 ghost use Rattle.trace_buffer.specs.Answers.{arrived_value};
-ghost use Rattle.chunk_plain.specs.Setup.{size_of, producer_of};
+ghost use Rattle.chunk_plain.specs.Setup.{size_of, producer_of, from_of};
 ghost use Rattle.chunk_plain.specs.Steps.{notes_commit};
 ghost use Rattle.chunk_words.specs.Named.{identity_of};
 ghost use Rattle.chunk_words.specs.Sits.{setup_in};
@@ -24,7 +25,8 @@ use trace_buffer::Arrived;
 
 impl Service {
     /// An image arrives, and then the patches given with it are applied in their order, whatever
-    /// became of the image. A refused patch is passed over.
+    /// became of the image. A refused patch is passed over. Image and patches name chunks by their
+    /// ids, and are noted with positions.
     pub fn commit(
         &mut self,
         table: &HostTable,
@@ -47,10 +49,14 @@ impl Service {
             × (core_of self.new ≡ core_of self.old) }
         ensures outcome { buffer_of (setup_in table.now) (image.now.sequence - FIRST_SEQUENCE) ≡ target
             → IsOkAnd result (λ arrived. arrived_value arrived
-            ≡ image_arrival_of (buffer_at (core_of self.old).buffers.items (target - 1)) (image_value image.now)) }
+            ≡ image_arrival_of (buffer_at (core_of self.old).buffers.items (target - 1))
+            (placed_image (from_of (setup_in table.now) (image.now.sequence - FIRST_SEQUENCE)) (image_value image.now))) }
         ensures noted { buffer_of (setup_in table.now) (image.now.sequence - FIRST_SEQUENCE) ≡ target
             → view_in self.new ≡ notes_commit (view_in self.old)
-            (record { image = image_value image.now; patches = map patch_value patches.now }) }
+            (let from = from_of (setup_in table.now) (image.now.sequence - FIRST_SEQUENCE) in record {
+              image = placed_image from (image_value image.now);
+              patches = placed_patches from (map patch_value patches.now);
+            }) }
         ensures desk { desk_in self.new ≡ desk_in self.old }
         ensures letters { (view_in self.new).letters ≡ (view_in self.old).letters }
     {
@@ -82,10 +88,14 @@ impl Service {
             × (core_of self.new ≡ core_of self.old) }
         ensures outcome { buffer_of (setup_in table.now) (image.now.sequence - FIRST_SEQUENCE) ≡ target
             → IsOkAnd result (λ arrived. arrived_value arrived
-            ≡ image_arrival_of (buffer_at (core_of self.old).buffers.items (target - 1)) (image_value image.now)) }
+            ≡ image_arrival_of (buffer_at (core_of self.old).buffers.items (target - 1))
+            (placed_image (from_of (setup_in table.now) (image.now.sequence - FIRST_SEQUENCE)) (image_value image.now))) }
         ensures noted { buffer_of (setup_in table.now) (image.now.sequence - FIRST_SEQUENCE) ≡ target
             → view_in self.new ≡ notes_commit (view_in self.old)
-            (record { image = image_value image.now; patches = map patch_value patches.now }) }
+            (let from = from_of (setup_in table.now) (image.now.sequence - FIRST_SEQUENCE) in record {
+              image = placed_image from (image_value image.now);
+              patches = placed_patches from (map patch_value patches.now);
+            }) }
         ensures desk { desk_in self.new ≡ N.desk }
         ensures letters { (view_in self.new).letters ≡ (view_in self.old).letters }
     {

@@ -1,13 +1,17 @@
 use Rattle.std.proofs.Common.{◌≡◌, ◌+◌, ◌-◌, ◌∙◌, ◌<◌, ℕ, [], ◌∷◌, length, map, subst, sym, refl, ap, arith}
 use Rattle.page_geometry.specs.Sizes.{record_size}
 use Rattle.trace_model.specs.History as model
+use Rattle.trace_model.specs.Ids.{placed_image, placed_patches}
+use Rattle.trace_model.specs.History.{buffers_after}
+use Rattle.trace_model.specs.Arrivals.{image_arrival_of}
 use Rattle.chunk_image.specs.Values.{image_value}
 use Rattle.commit_body.specs.Patches.{patch_value}
 use Rattle.chunk_plain.specs.Steps.{notes_commit}
 use Rattle.chunk_plain.specs.Views.{Committed, ServiceView}
-use Rattle.service_core.specs.Routing.{IsAt}
+use Rattle.chunk_plain.specs.Setup.{from_of}
+use Rattle.service_core.specs.Routing.{IsAt, buffer_at, from_at}
 use Rattle.service_core.specs.Agreement.{ServiceAgrees}
-use Rattle.service_core.proofs.KeptLemmas.{found_at}
+use Rattle.service_core.proofs.KeptLemmas.{found_at, from_in_sequence}
 use Rattle.service_core.proofs.RoutedLemmas.{keeps_open}
 use Rattle.service_core.proofs.CloseLemmas.{agrees_committed}
 use Rattle.service_core.proofs.service.ServiceCore.commit.Goals as goal
@@ -33,14 +37,24 @@ returns-clause-agrees g c =
     let view = g.W.Words.means.service_view c.args.table.now c.args.self.now.seat in
     let core = c.args.self.now in
     let done = record core { seat = c.note_commit.new.seat; buffers = c.commit_in-arrived.new.buffers } in
+    let place = c.args.image.now.sequence - 2 in
+    let from = from_of setup place in
     let image = image_value c.args.image.now in
     let patches = map patch_value c.args.patches.now in
-    let one : Committed = record { image = image; patches = patches } in
+    let one : Committed = record { image = placed_image from image; patches = placed_patches from patches } in
     let least = c.requires.least in
-    let back : c.args.image.now.sequence - 2 + 1 + 1 ≡ c.args.image.now.sequence = omega (arith, least) in
-    let noted = c.note_commit.ensures.view ∙ ap (λ (q : ℕ). notes_commit view (record { image = record image { sequence = q }; patches = patches })) back in
+    let back : place + 1 + 1 ≡ c.args.image.now.sequence = omega (arith, least) in
+    let behind : place + 2 ≡ c.args.image.now.sequence = omega (arith, least) in
+    let most = c.requires.most in
+    let inside : place < length setup.writers = omega (arith, least, most) in
+    let came = from_in_sequence setup view core place c.requires.agrees inside c.index.result.now c.from.result c.args.image.now.sequence c.index.ensures (c.from.ensures ∙ sym c.if-buffer-target.false) behind in
+    let before : place + 1 - 1 ≡ place = omega arith in
+    let noted = c.note_commit.ensures.view
+    ∙ ap (λ (p : ℕ). notes_commit view (record { image = placed_image (from_of setup p) (record image { sequence = place + 1 + 1 }); patches = placed_patches (from_of setup p) patches })) before
+    ∙ ap (λ (q : ℕ). notes_commit view (record { image = placed_image from (record image { sequence = q }); patches = placed_patches from patches })) back in
     subst (λ (v : ServiceView). ServiceAgrees setup v done) (sym noted)
-    (agrees_committed setup view core done one c.requires.agrees (record { layout = refl; specs = refl; writers = refl; session = refl }) c.commit_in-arrived.ensures.after refl)
+    (agrees_committed setup view core done one c.requires.agrees (record { layout = refl; specs = refl; writers = refl; session = refl })
+    (c.commit_in-arrived.ensures.after ∙ ap (λ (n : ℕ). buffers_after core.buffers.items (model.Committed (placed_image n image) (placed_patches n patches) ∷ [])) came) refl)
 
 pub returns-clause-keeps : goal.returns-clause-keeps
 returns-clause-keeps g c =
@@ -48,5 +62,35 @@ returns-clause-keeps g c =
     let view = g.W.Words.means.service_view c.args.table.now c.args.self.now.seat in
     let core = c.args.self.now in
     let done = record core { seat = c.note_commit.new.seat; buffers = c.commit_in-arrived.new.buffers } in
-    let event = model.Committed (image_value c.args.image.now) (map patch_value c.args.patches.now) in
+    let from = from_at core.buffers.items (c.from.result - 1) c.args.image.now.sequence in
+    let event = model.Committed (placed_image from (image_value c.args.image.now)) (placed_patches from (map patch_value c.args.patches.now)) in
     keeps_open setup view core done (event ∷ []) c.requires.agrees (record { layout = refl; specs = refl; writers = refl; session = refl }) c.commit_in-arrived.ensures.after (refl, tt)
+
+pub returns-clause-outcome : goal.returns-clause-outcome
+returns-clause-outcome g c named =
+    let setup = g.W.Words.means.setup c.args.table.now in
+    let view = g.W.Words.means.service_view c.args.table.now c.args.self.now.seat in
+    let core = c.args.self.now in
+    let place = c.args.image.now.sequence - 2 in
+    let least = c.requires.least in
+    let back : place + 2 ≡ c.args.image.now.sequence = omega (arith, least) in
+    let most = c.requires.most in
+    let inside : place < length setup.writers = omega (arith, least, most) in
+    let came = from_in_sequence setup view core place c.requires.agrees inside c.index.result.now c.from.result c.args.image.now.sequence c.index.ensures (c.from.ensures ∙ sym c.if-buffer-target.false) back in
+    c.commit_in-arrived.ensures.outcome
+    ∙ ap (λ (n : ℕ). image_arrival_of (buffer_at core.buffers.items (c.from.result - 1)) (placed_image n (image_value c.args.image.now))) came
+    ∙ ap (λ (b : ℕ). image_arrival_of (buffer_at core.buffers.items (b - 1)) (placed_image (from_of setup place) (image_value c.args.image.now))) c.from.ensures
+
+pub returns-clause-noted : goal.returns-clause-noted
+returns-clause-noted g c named =
+    let setup = g.W.Words.means.setup c.args.table.now in
+    let view = g.W.Words.means.service_view c.args.table.now c.args.self.now.seat in
+    let place = c.args.image.now.sequence - 2 in
+    let image = image_value c.args.image.now in
+    let patches = map patch_value c.args.patches.now in
+    let least = c.requires.least in
+    let back : place + 1 + 1 ≡ c.args.image.now.sequence = omega (arith, least) in
+    let before : place + 1 - 1 ≡ place = omega arith in
+    c.note_commit.ensures.view
+    ∙ ap (λ (p : ℕ). notes_commit view (record { image = placed_image (from_of setup p) (record image { sequence = place + 1 + 1 }); patches = placed_patches (from_of setup p) patches })) before
+    ∙ ap (λ (q : ℕ). notes_commit view (record { image = placed_image (from_of setup place) (record image { sequence = q }); patches = placed_patches (from_of setup place) patches })) back

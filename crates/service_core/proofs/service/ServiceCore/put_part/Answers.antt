@@ -4,18 +4,22 @@ use Rattle.std.proofs.lemmas.Nat.{and_mask}
 use Rattle.page_geometry.specs.Sizes.{record_size}
 use Rattle.trace_model.specs.Fragments.{drop_size}
 use Rattle.trace_model.specs.Images.{Image}
+use Rattle.trace_model.specs.Ids.{placed_image}
+use Rattle.trace_model.proofs.NamingLemmas.{image_placed}
+use Rattle.trace_model.specs.History.{buffers_after}
 use Rattle.chunk_plain.specs.declared.setup.Spot.{Spot}
-use Rattle.chunk_plain.specs.Setup.{Setup, spot, producer_of}
+use Rattle.chunk_plain.specs.Setup.{Setup, spot, producer_of, from_of, id_at}
 use Rattle.chunk_plain.specs.Words.{ShowsFound}
 use Rattle.chunk_plain.specs.Views.{Partial, ServiceView}
-use Rattle.service_core.specs.Routing.{IsAt, partial_arrivals_of}
+use Rattle.service_core.specs.Routing.{IsAt, from_at, partial_arrivals_of}
 use Rattle.service_core.specs.Order.{IsFoundPart}
 use Rattle.service_core.specs.Agreement.{ServiceAgrees}
 use Rattle.service_core.specs.Taking.{noted_more}
-use Rattle.service_core.proofs.KeptLemmas.{found_at}
+use Rattle.service_core.proofs.KeptLemmas.{read_count, found_at, from_here}
 use Rattle.service_core.proofs.RoutedLemmas.{keeps_open}
 use Rattle.service_core.proofs.ScrapeLemmas.{no_closes, part_found, agrees_part}
 use Rattle.service_core.proofs.service.ServiceCore.put_part.Goals as goal
+use Rattle.service_core.specs.Scraping.{PartLooked}
 
 pub arrive_part_in-requires-clause-at : goal.arrive_part_in-requires-clause-at
 arrive_part_in-requires-clause-at g c =
@@ -48,11 +52,30 @@ returns-clause-agrees g c =
     let shows = subst (λ (bytes : List ℕ). ShowsFound old c.args.chunk bytes) (sym c.front.ensures.bytes) c.load.ensures.found in
     let mask : bit_and c.args.header.flags 1 ≡ c.args.header.flags % 2 = and_mask c.args.header.flags 1 in
     let front : bit_and c.args.header.flags 1 % 2 ≡ c.args.header.flags % 2 = omega (arith, mask) in
-    subst (λ (v : ServiceView). ServiceAgrees setup v done) (sym (c.note.ensures.view ∙ (ap (λ (n : ℕ). noted_more (g.W.Words.means.service_view c.load.new.table c.load.new.seat) (Partial (place + 2) c.args.header.chunk_id n ∷ [])) c.from-limit.ensures
-    ∙ ap (λ (v : ServiceView). noted_more v (Partial (place + 2) c.args.header.chunk_id c.args.finished ∷ [])) c.load.ensures.view)))
-    (agrees_part setup old core done place c.args.chunk c.args.header.chunk_id c.args.finished c.args.header.flags (bit_and c.args.header.flags 1) c.front.result.now
-    c.requires.agrees (g.met.W.Words.looks_agree c.args.table.now core.seat c.requires.serves) c.requires.looked
-    (record { layout = refl; specs = refl; writers = refl; session = refl }) c.requires.open c.requires.id c.requires.some front shows small c.arrive_part_in.ensures.after refl)
+    let position = c.index-position.result.now in
+    let counted = read_count setup old core place c.requires.agrees c.requires.place position c.index-position.ensures in
+    let looked = subst (λ (n : ℕ). PartLooked old c.args.chunk place n c.args.finished c.args.header.flags) (sym counted) c.requires.looked in
+    let image : Image = record { sequence = place + 2; chunk_id = c.args.header.chunk_id; count = c.args.finished; flags = bit_and c.args.header.flags 1; payload = c.front.result.now } in
+    let placed : placed_image (from_at core.buffers.items (c.from-index.result - 1) (place + 2)) image ≡ record image { chunk_id = position } =
+    ap (λ (n : ℕ). placed_image n image) (from_here setup old core place c.requires.agrees c.requires.place c.index.result.now c.from-index.result c.index.ensures c.from-index.ensures)
+    ∙ image_placed (from_of setup place) position image (c.requires.id ∙ ap (id_at setup place) (sym counted)) (omega arith) in
+    let after = c.arrive_part_in.ensures.after ∙ ap (λ (i : Image). buffers_after core.buffers.items (partial_arrivals_of i)) placed in
+    subst (λ (v : ServiceView). ServiceAgrees setup v done) (sym (c.note.ensures.view ∙ (ap (λ (n : ℕ). noted_more (g.W.Words.means.service_view c.load.new.table c.load.new.seat) (Partial (place + 2) c.index-position.result.now n ∷ [])) c.from-limit.ensures
+    ∙ ap (λ (v : ServiceView). noted_more v (Partial (place + 2) c.index-position.result.now c.args.finished ∷ [])) c.load.ensures.view)))
+    (agrees_part setup old core done place c.args.chunk position c.args.finished c.args.header.flags (bit_and c.args.header.flags 1) c.front.result.now
+    c.requires.agrees (g.met.W.Words.looks_agree c.args.table.now core.seat c.requires.serves) looked
+    (record { layout = refl; specs = refl; writers = refl; session = refl }) c.requires.open counted c.requires.some front shows small after refl)
+
+pub returns-clause-view : goal.returns-clause-view
+returns-clause-view g c =
+    let setup = g.W.Words.means.setup c.args.table.now in
+    let old = g.W.Words.means.service_view c.args.table.now c.args.self.now.seat in
+    let place = c.args.place in
+    let position = c.index-position.result.now in
+    let counted = read_count setup old c.args.self.now place c.requires.agrees c.requires.place position c.index-position.ensures in
+    c.note.ensures.view ∙ (ap (λ (n : ℕ). noted_more (g.W.Words.means.service_view c.load.new.table c.load.new.seat) (Partial (place + 2) position n ∷ [])) c.from-limit.ensures
+    ∙ (ap (λ (v : ServiceView). noted_more v (Partial (place + 2) position c.args.finished ∷ [])) c.load.ensures.view
+    ∙ ap (λ (n : ℕ). noted_more old (Partial (place + 2) n c.args.finished ∷ [])) counted))
 
 pub returns-clause-keeps : goal.returns-clause-keeps
 returns-clause-keeps g c =
@@ -67,7 +90,8 @@ returns-clause-keeps g c =
       flags = bit_and c.args.header.flags 1;
       payload = c.front.result.now;
     } in
-    keeps_open setup old core done (partial_arrivals_of image) c.requires.agrees (record { layout = refl; specs = refl; writers = refl; session = refl }) c.arrive_part_in.ensures.after (no_closes image)
+    let placed = placed_image (from_at core.buffers.items (c.from-index.result - 1) (c.args.place + 2)) image in
+    keeps_open setup old core done (partial_arrivals_of placed) c.requires.agrees (record { layout = refl; specs = refl; writers = refl; session = refl }) c.arrive_part_in.ensures.after (no_closes placed)
 
 pub returns-clause-part : goal.returns-clause-part
 returns-clause-part g c =
@@ -75,8 +99,12 @@ returns-clause-part g c =
     let old = g.W.Words.means.service_view c.args.table.now c.args.self.now.seat in
     let core = c.args.self.now in
     let place = c.args.place in
-    subst (λ (v : ServiceView). IsFoundPart v (place + 2) c.args.header.chunk_id c.args.finished)
-    (sym (c.note.ensures.view ∙ (ap (λ (n : ℕ). noted_more (g.W.Words.means.service_view c.load.new.table c.load.new.seat) (Partial (place + 2) c.args.header.chunk_id n ∷ [])) c.from-limit.ensures
-    ∙ ap (λ (v : ServiceView). noted_more v (Partial (place + 2) c.args.header.chunk_id c.args.finished ∷ [])) c.load.ensures.view)))
-    (part_found setup old core core place c.args.chunk c.args.header.chunk_id c.args.finished c.args.header.flags (bit_and c.args.header.flags 1) c.front.result.now
-    c.requires.agrees (g.met.W.Words.looks_agree c.args.table.now core.seat c.requires.serves) c.requires.looked c.requires.some)
+    let position = c.index-position.result.now in
+    let counted = read_count setup old core place c.requires.agrees c.requires.place position c.index-position.ensures in
+    let looked = subst (λ (n : ℕ). PartLooked old c.args.chunk place n c.args.finished c.args.header.flags) (sym counted) c.requires.looked in
+    subst (λ (n : ℕ). IsFoundPart (g.W.Words.means.service_view c.note.new.self c.note.new.seat) (place + 2) n c.args.finished) counted
+    (subst (λ (v : ServiceView). IsFoundPart v (place + 2) position c.args.finished)
+    (sym (c.note.ensures.view ∙ (ap (λ (n : ℕ). noted_more (g.W.Words.means.service_view c.load.new.table c.load.new.seat) (Partial (place + 2) position n ∷ [])) c.from-limit.ensures
+    ∙ ap (λ (v : ServiceView). noted_more v (Partial (place + 2) position c.args.finished ∷ [])) c.load.ensures.view)))
+    (part_found setup old core core place c.args.chunk position c.args.finished c.args.header.flags (bit_and c.args.header.flags 1) c.front.result.now
+    c.requires.agrees (g.met.W.Words.looks_agree c.args.table.now core.seat c.requires.serves) looked c.requires.some))

@@ -7,9 +7,10 @@ use Rattle.trace_model.specs.Buffers.{Buffer, empty_buffer}
 use Rattle.trace_buffer.specs.Answers.{state_of}
 use Rattle.service_core.specs.declared.service.ServiceCore.{ServiceCore}
 use Rattle.service_core.specs.Routing.{buffer_at}
-use Rattle.service_core.specs.Agreement.{spec_at, no_writer}
+use Rattle.service_core.specs.Agreement.{spec_at}
 use Rattle.service_core.proofs.RoutedLemmas.{stands_in}
 use Rattle.service_core.proofs.service.ServiceCore.state_at.Goals as goal
+use Rattle.chunk_plain.specs.Setup.{no_writer}
 
 no_buffer : Buffer
 no_buffer = empty_buffer 0 Ring []

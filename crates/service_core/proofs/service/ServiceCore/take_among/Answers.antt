@@ -79,14 +79,14 @@ try_take-requires-clause-next g c =
     let means = g.W.Words.means in
     let place = c.args.place in
     let old = means.service_view c.args.table.now c.args.self.now.seat in
-    read_count (means.setup c.args.table.now) old c.args.self.now place c.requires.agrees c.requires.place c.index-id.result.now c.index-id.ensures
+    read_count (means.setup c.args.table.now) old c.args.self.now place c.requires.agrees c.requires.place c.index-position.result.now c.index-position.ensures
     ∙ sym (ap (λ (v : ServiceView). (taken_of v place).count) c.loop-chunk.invariant.seen.view)
 
-pub try_take-requires-clause-id : goal.try_take-requires-clause-id
-try_take-requires-clause-id g c =
+pub try_take-requires-clause-position : goal.try_take-requires-clause-position
+try_take-requires-clause-position g c =
     let means = g.W.Words.means in
     let place = c.args.place in
     let old = means.service_view c.args.table.now c.args.self.now.seat in
-    let is = read_count (means.setup c.args.table.now) old c.args.self.now place c.requires.agrees c.requires.place c.index-id.result.now c.index-id.ensures in
-    let few = c.requires.id in
+    let is = read_count (means.setup c.args.table.now) old c.args.self.now place c.requires.agrees c.requires.place c.index-position.result.now c.index-position.ensures in
+    let few = c.requires.position in
     omega (arith, is, few)
