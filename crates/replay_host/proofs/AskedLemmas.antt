@@ -12,7 +12,7 @@ use Rattle.trace_model.specs.Packets.{Packet}
 use Rattle.scenario_text.specs.Accepted.{Accepts}
 use Rattle.model_laws.specs.Losses.{Loses}
 use Rattle.chunk_plain.specs.Meaning.{Meaning}
-use Rattle.chunk_plain.specs.Setup.{Setup, IsLaid, HasProducer, range_of, producer_of}
+use Rattle.chunk_plain.specs.Setup.{Setup, IsLaid, HasProducer, range_of, producer_of, no_writer}
 use Rattle.chunk_plain.specs.declared.setup.ChunkRange.{ChunkRange}
 use Rattle.chunk_plain.specs.Views.{WriterView}
 use Rattle.chunk_plain.specs.World.{World, writer}
@@ -26,7 +26,7 @@ use Rattle.trace_writer.specs.Losing.{LosesBehind}
 use Rattle.trace_writer.specs.OwnSteps.{IsQuiet}
 use Rattle.trace_writer.specs.Site.{IsRoute}
 use Rattle.service_core.specs.declared.service.ServiceCore.{ServiceCore}
-use Rattle.service_core.specs.Agreement.{spec_at, no_writer}
+use Rattle.service_core.specs.Agreement.{spec_at}
 use Rattle.trace_writer.specs.Answered.{KeepsCompleted}
 use Rattle.trace_writer.proofs.holding.Answering.{works_keep_completed}
 use Rattle.replay_model.specs.Does.{MayNeedChunk, Notes, Wrote, dropped_call, policy_of}

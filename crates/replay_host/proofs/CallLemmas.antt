@@ -5,7 +5,7 @@ use Rattle.trace_base.specs.declared.policy.WriterPolicy.TheVariants.{Drops, Sta
 use Rattle.trace_model.specs.Calls.{Call, Begun}
 use Rattle.model_laws.proofs.ChunkCountLemmas.{every_image_is_counted}
 use Rattle.model_laws.proofs.LaterCallLemmas.{more_calls_take_more}
-use Rattle.chunk_plain.specs.declared.tokens.TheConstants.{ID_LIMIT}
+use Rattle.chunk_plain.specs.declared.tokens.TheConstants.{POSITION_LIMIT}
 use Rattle.chunk_plain.specs.Histories.{completed_images}
 use Rattle.chunk_plain.specs.Meaning.{Meaning}
 use Rattle.chunk_plain.specs.Setup.{Setup}
@@ -111,7 +111,7 @@ quiet_called means needs helps call helper old core new after quiet agrees going
 
 -- There are ids enough for a packet that is to come.
 pub ids_enough : (setup : Setup) (place : ℕ) (view : WriterView) (writer : Writer) (coming : List Call) → WriterAgrees setup place view writer
-    → IsReadyFor writer.route.payload_size view (Begun true ∷ coming) → length view.begun + PACKET_IDS ≤ ID_LIMIT
+    → IsReadyFor writer.route.payload_size view (Begun true ∷ coming) → length view.begun + PACKET_IDS ≤ POSITION_LIMIT
 ids_enough setup place view writer coming agrees ready =
     let size : ℕ = writer.route.payload_size in
     let cut = agreeing_is_cut setup place view writer agrees in

@@ -8,11 +8,11 @@ use Rattle.trace_base.specs.declared.policy.WriterSpec.{WriterSpec}
 use Rattle.trace_model.specs.Calls.{Call}
 use Rattle.trace_model.specs.Packets.{account_of}
 use Rattle.chunk_plain.specs.Meaning.{Meaning}
-use Rattle.chunk_plain.specs.Setup.{IsLaid, HasProducer, producer_of}
+use Rattle.chunk_plain.specs.Setup.{IsLaid, HasProducer, producer_of, no_writer}
 use Rattle.world_model.specs.FirstBuffers.{payload_at}
 use Rattle.trace_writer.specs.declared.writer.WriterCore.{WriterCore}
 use Rattle.trace_writer.specs.Core.{route_of}
-use Rattle.service_core.specs.Agreement.{no_writer, spec_at}
+use Rattle.service_core.specs.Agreement.{spec_at}
 use Rattle.replay_host.specs.declared.fault.HostFault.{HostFault}
 use Rattle.replay_host.specs.declared.fault.HostFault.TheVariants.{Stalled}
 use Rattle.replay_host.specs.declared.helper.Collecting.{Collecting}

@@ -55,11 +55,11 @@ same_from one other number place [] same = refl
 same_from one other number place (spec ∷ specs) same = step (spec.buffer == number) (same_from one other number (suc place) specs same)
   where
     step : (named : Bool) → sequences_from one number (suc place) specs ≡ sequences_from other number (suc place) specs
-        → cond named (fresh (place + 2) (record_size (size_of one spec.producer)) ∷ sequences_from one number (suc place) specs) (sequences_from one number (suc place) specs)
-        ≡ cond named (fresh (place + 2) (record_size (size_of other spec.producer)) ∷ sequences_from other number (suc place) specs) (sequences_from other number (suc place) specs)
+        → cond named (fresh (place + 2) (record_size (size_of one spec.producer)) spec.from ∷ sequences_from one number (suc place) specs) (sequences_from one number (suc place) specs)
+        ≡ cond named (fresh (place + 2) (record_size (size_of other spec.producer)) spec.from ∷ sequences_from other number (suc place) specs) (sequences_from other number (suc place) specs)
     step true rest =
-        ap (λ (sizes : List ℕ). fresh (place + 2) (record_size (get_or sizes (spec.producer - 1) 0)) ∷ sequences_from one number (suc place) specs) same
-        ∙ ap (λ (sequences : List Sequence). fresh (place + 2) (record_size (size_of other spec.producer)) ∷ sequences) rest
+        ap (λ (sizes : List ℕ). fresh (place + 2) (record_size (get_or sizes (spec.producer - 1) 0)) spec.from ∷ sequences_from one number (suc place) specs) same
+        ∙ ap (λ (sequences : List Sequence). fresh (place + 2) (record_size (size_of other spec.producer)) spec.from ∷ sequences) rest
     step false rest = rest
 
 -- and the buffers are the same at first

@@ -19,7 +19,7 @@ use Rattle.trace_buffer.specs.declared.answers.BufferCounts.{BufferCounts}
 use Rattle.trace_buffer.specs.declared.answers.SequenceState.{SequenceState}
 use Rattle.chunk_plain.specs.Histories.{history_of}
 use Rattle.chunk_plain.specs.Meaning.{Meaning}
-use Rattle.chunk_plain.specs.Setup.{Setup, sequence_of}
+use Rattle.chunk_plain.specs.Setup.{Setup, sequence_of, no_writer}
 use Rattle.chunk_plain.specs.Views.{ServiceView, WriterView}
 use Rattle.chunk_plain.specs.World.{World, writer}
 use Rattle.trace_writer.specs.declared.writer.WriterCore.{WriterCore}
@@ -28,7 +28,7 @@ use Rattle.world_model.proofs.MakingLemmas.{first_long}
 use Rattle.scenario_text.specs.declared.scenario.BufferLine.{BufferLine}
 use Rattle.scenario_text.specs.Scenario.{Parts}
 use Rattle.service_core.specs.declared.service.ServiceCore.{ServiceCore}
-use Rattle.service_core.specs.Agreement.{ServiceAgrees, first_of, buffer_of, spec_at, spec_value, no_writer}
+use Rattle.service_core.specs.Agreement.{ServiceAgrees, first_of, buffer_of, spec_at, spec_value}
 use Rattle.service_core.specs.Routing.{buffer_at}
 use Rattle.service_core.proofs.RouteLemmas.{length_after}
 use Rattle.loss_report.specs.declared.counts.SequenceCounts.{SequenceCounts}

@@ -11,7 +11,7 @@ use Rattle.model_laws.specs.Losses.{Loses, written_calls}
 use Rattle.model_laws.proofs.LossLemmas.{losses_change_no_shape, written_append}
 use Rattle.scenario_text.specs.Accepted.{Accepts, AcceptsField, AreAccepted}
 use Rattle.scenario_text.proofs.PossibleLemmas.{accepted_possible}
-use Rattle.chunk_plain.specs.declared.tokens.TheConstants.{ID_LIMIT}
+use Rattle.chunk_plain.specs.declared.tokens.TheConstants.{POSITION_LIMIT}
 use Rattle.chunk_plain.specs.Meaning.{Meaning}
 use Rattle.chunk_plain.specs.Views.{WriterView}
 use Rattle.trace_writer.specs.declared.ids.TheConstants.{PACKET_IDS}
@@ -103,7 +103,7 @@ ready_flush size view coming between ready =
       loses = ready.loses;
       accepted = accepted;
       possible = possible_behind ready.asked coming ready.possible (Flushed ∷ coming) accepted;
-      few = subst (λ (es : List (List ℕ)). most_chunks size es + PACKET_IDS ≤ ID_LIMIT)
+      few = subst (λ (es : List (List ℕ)). most_chunks size es + PACKET_IDS ≤ POSITION_LIMIT)
           (sym (losses_change_no_shape (ready.asked ++ coming) (ready.asked ++ Flushed ∷ coming) (flush_loses ready.asked coming)).emitted) ready.few;
     }
   where

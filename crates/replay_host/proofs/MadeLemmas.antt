@@ -21,7 +21,7 @@ use Rattle.scenario_text.specs.Lengths.{AreShort}
 use Rattle.scenario_text.proofs.AcceptedFields.{accepted_both}
 use Rattle.scenario_text.proofs.ChunksAskedLemmas.{chunks_asked}
 use Rattle.scenario_text.proofs.PossibleLemmas.{accepted_possible}
-use Rattle.chunk_plain.specs.declared.tokens.TheConstants.{ID_LIMIT}
+use Rattle.chunk_plain.specs.declared.tokens.TheConstants.{POSITION_LIMIT}
 use Rattle.chunk_plain.specs.Histories.{happened}
 use Rattle.chunk_plain.specs.Meaning.{Meaning}
 use Rattle.chunk_plain.specs.Views.{Noted, newcomer}
@@ -74,7 +74,7 @@ all_ready size scenario place asks short =
       loses = refl;
       accepted = accepted;
       possible = accepted_possible nothing_yet (calls ++ flush_if (not closed)) accepted;
-      few = subst (λ (emitted : List (List ℕ)). most_chunks size emitted + PACKET_IDS ≤ ID_LIMIT) (sym (flush_emits (not closed) calls))
+      few = subst (λ (emitted : List (List ℕ)). most_chunks size emitted + PACKET_IDS ≤ POSITION_LIMIT) (sym (flush_emits (not closed) calls))
           (omega (arith, few, lines_few, bytes_few));
     }
 

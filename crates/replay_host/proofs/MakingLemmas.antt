@@ -13,10 +13,10 @@ use Rattle.scenario_text.specs.declared.scenario.ProducerLine.{ProducerLine}
 use Rattle.scenario_text.specs.Limits.{IsBuffer, IsWriter, IsSetUp}
 use Rattle.chunk_plain.specs.declared.setup.ProducerSpec.{ProducerSpec}
 use Rattle.chunk_plain.specs.Laying.{setup_of}
-use Rattle.chunk_plain.specs.Setup.{Setup, HasProducer, IsChunkOf, IsLaid, producer_of, size_of, spot}
+use Rattle.chunk_plain.specs.Setup.{Setup, HasProducer, IsChunkOf, IsLaid, producer_of, size_of, spot, no_writer}
 use Rattle.world_model.specs.FirstBuffers as first
 use Rattle.trace_buffer.specs.declared.answers.BufferSpec.{BufferSpec}
-use Rattle.service_core.specs.Agreement.{IsRouted, no_writer, spec_at, spec_value}
+use Rattle.service_core.specs.Agreement.{IsRouted, spec_at, spec_value}
 use Rattle.service_core.specs.Making.{HaveSizes, RecordsFit, buffer_spec_at}
 use Rattle.service_core.proofs.MakeLemmas.{ranges_long, size_is as cut_so}
 use Rattle.replay_model.specs.Played.{IsSpecOf}

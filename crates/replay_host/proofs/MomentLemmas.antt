@@ -18,10 +18,10 @@ use Rattle.scenario_text.specs.Reach.{NamesWriter, NamesProducer}
 use Rattle.scenario_text.proofs.AcceptedLemmas.{calls_more}
 use Rattle.scenario_text.proofs.AcceptedFields.{accepted_front}
 use Rattle.chunk_plain.specs.Meaning.{Meaning}
-use Rattle.chunk_plain.specs.Setup.{Setup, HasProducer, producer_of}
+use Rattle.chunk_plain.specs.Setup.{Setup, HasProducer, producer_of, no_writer}
 use Rattle.trace_writer.specs.declared.writer.WriterCore.{WriterCore}
 use Rattle.world_model.specs.FirstBuffers.{payload_at}
-use Rattle.service_core.specs.Agreement.{no_writer, spec_at}
+use Rattle.service_core.specs.Agreement.{spec_at}
 use Rattle.service_core.proofs.MakeLemmas.{ranges_long}
 use Rattle.replay_model.specs.Acts.{Act, asks}
 use Rattle.replay_model.specs.Flushes.{FlushNote}

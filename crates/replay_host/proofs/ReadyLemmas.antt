@@ -14,7 +14,7 @@ use Rattle.trace_model.specs.Packets.{Account, AreCalls, nothing_yet, noted, pac
 use Rattle.model_laws.specs.Losses.{Loses, HasShapeOf, written_calls}
 use Rattle.model_laws.proofs.LossLemmas.{losses_change_no_shape, written_append}
 use Rattle.scenario_text.specs.Accepted.{AcceptsField, AreAccepted}
-use Rattle.chunk_plain.specs.declared.tokens.TheConstants.{ID_LIMIT}
+use Rattle.chunk_plain.specs.declared.tokens.TheConstants.{POSITION_LIMIT}
 use Rattle.chunk_plain.specs.Views.{WriterView}
 use Rattle.trace_writer.specs.declared.ids.TheConstants.{PACKET_IDS}
 use Rattle.trace_writer.specs.declared.fault.CallFault.{CallFault}
@@ -114,7 +114,7 @@ ready_behind size old new call coming done ready notes is = record {
   loses = loses_more ready.asked old new call done ready.loses notes is;
   accepted = subst (λ (a : Account). AreAccepted a coming) (sym (fold-append noted nothing_yet ready.asked (call ∷ []))) ready.accepted.1;
   possible = subst AreCalls (sym (append_assoc ready.asked (call ∷ []) coming)) ready.possible;
-  few = subst (λ (cs : List Call). most_chunks size (emissions_of cs) + PACKET_IDS ≤ ID_LIMIT) (sym (append_assoc ready.asked (call ∷ []) coming)) ready.few;
+  few = subst (λ (cs : List Call). most_chunks size (emissions_of cs) + PACKET_IDS ≤ POSITION_LIMIT) (sym (append_assoc ready.asked (call ∷ []) coming)) ready.few;
 }
 
 -- a view with the same calls is ready for the same

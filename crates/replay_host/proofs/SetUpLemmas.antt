@@ -13,8 +13,9 @@ use Rattle.scenario_text.proofs.AcceptedLemmas.{scenario_is_accepted}
 use Rattle.scenario_text.proofs.LimitLemmas.{scenario_is_set_up}
 use Rattle.chunk_plain.specs.declared.setup.ProducerSpec.{ProducerSpec}
 use Rattle.chunk_plain.specs.Laying.{setup_of}
+use Rattle.chunk_plain.specs.Setup.{no_writer}
 use Rattle.trace_buffer.specs.declared.answers.BufferSpec.{BufferSpec}
-use Rattle.service_core.specs.Agreement.{IsRouted, no_writer, spec_at}
+use Rattle.service_core.specs.Agreement.{IsRouted, spec_at}
 use Rattle.service_core.specs.Making.{HaveSizes, RecordsFit}
 use Rattle.replay_model.specs.Played.{IsSpecOf}
 use Rattle.replay_model.proofs.SpecLemmas.{some_page, few_pages}

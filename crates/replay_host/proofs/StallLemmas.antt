@@ -7,7 +7,7 @@ use Rattle.trace_base.specs.declared.policy.WriterPolicy.TheVariants.{Drops, Sta
 use Rattle.trace_base.specs.declared.policy.WriterSpec.{WriterSpec}
 use Rattle.trace_model.specs.Calls.{Call}
 use Rattle.claim_arbiter.specs.Claiming.{range_in}
-use Rattle.chunk_plain.specs.declared.tokens.TheConstants.{ID_LIMIT}
+use Rattle.chunk_plain.specs.declared.tokens.TheConstants.{POSITION_LIMIT}
 use Rattle.chunk_plain.specs.Histories.{completed_images}
 use Rattle.chunk_plain.specs.Meaning.{Meaning}
 use Rattle.chunk_plain.specs.Owned.{IsOwned}
@@ -178,7 +178,7 @@ stalls_world means laws setup place route call may range producer policy stalls 
 -- each of these writers has completed at most as many chunks as there are ids
 abbrev pub FitAll : {W : Type 0} → List (WriterCore W) → Type 0
 FitAll {W} cores = (place : ℕ) (one : WriterCore W) → slice_get cores place ≡ Some one → (setup : Setup) (view : WriterView)
-    → CoreAgrees setup place view one → length (completed_images view.begun) ≤ ID_LIMIT
+    → CoreAgrees setup place view one → length (completed_images view.begun) ≤ POSITION_LIMIT
 
 module _ {T W S : Type 0} (means : Meaning T W S) (laws : AreLaws means) (call : Call) (place : ℕ)
     (old : T) (cores : List (WriterCore W)) (helper : Collecting S) (core : WriterCore W)
@@ -248,7 +248,7 @@ module _ {T W S : Type 0} (means : Meaning T W S) (laws : AreLaws means) (call :
             let agreed : CoreAgrees (means.setup old) other (means.view new after.seat) after =
             subst (λ (p : ℕ). CoreAgrees (means.setup old) p (means.view new after.seat) after) (sym same) agrees in
             let few = subst (λ (c : WriterCore W). CoreAgrees (means.setup old) other (means.view new after.seat) c → length
-            (completed_images (means.view new after.seat).begun) ≤ ID_LIMIT)
+            (completed_images (means.view new after.seat).begun) ≤ POSITION_LIMIT)
             (set_here cores place after other one read same) (fits other one read (means.setup old) (means.view new after.seat)) in
             subst (λ (v : WriterView). IsTidy (means.setup old) other v)
             (sym (row_is means laws new is told other after.seat stalled.others.seat_stays

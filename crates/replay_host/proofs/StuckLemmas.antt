@@ -5,7 +5,7 @@ use Rattle.std.proofs.lemmas.Bool.{cases_eq, cases_lt, eq-eqb}
 use Rattle.std.proofs.Math.Logic.{∥∥₁_elim}
 use Rattle.std.proofs.lemmas.List.{get_or_past}
 use Rattle.trace_model.specs.Packets.{account_of}
-use Rattle.chunk_plain.specs.declared.tokens.TheConstants.{ID_LIMIT}
+use Rattle.chunk_plain.specs.declared.tokens.TheConstants.{POSITION_LIMIT}
 use Rattle.chunk_plain.specs.Histories.{completed_images}
 use Rattle.chunk_plain.specs.Owned.{IsOwned, times, claims_of, reads_of}
 use Rattle.chunk_plain.specs.Setup.{Setup, HasProducer, IsChunkOf, producer_of, ProducersAreApart}
@@ -166,11 +166,11 @@ kept_at (Completed about before ∷ old) (Completed other after ∷ new) keeps n
 pub record IsTidy (setup : Setup) (place : ℕ) (view : WriterView) : Type 0 where
   pub claims : KeepsClaims setup place view
   pub first : CompletesFirst view.begun
-  pub few : length (completed_images view.begun) ≤ ID_LIMIT
+  pub few : length (completed_images view.begun) ≤ POSITION_LIMIT
   pub has : HasProducer setup (producer_of setup place)
 
 pub tidy_is : (setup : Setup) (place : ℕ) (view : WriterView) (one : Writer) → WriterAgrees setup place view one
-    → length (completed_images view.begun) ≤ ID_LIMIT → HasProducer setup (producer_of setup place) → IsTidy setup place view
+    → length (completed_images view.begun) ≤ POSITION_LIMIT → HasProducer setup (producer_of setup place) → IsTidy setup place view
 tidy_is setup place view one agrees few has = record {
   claims = agrees.claims;
   first = state_first setup place view one agrees.writes
@@ -355,7 +355,7 @@ none_left_still setup producer place kept is owned_kept owned_is leaves chunks h
     ∥∥₁_elim owned_kept (λ a b. absurd a) (λ owned. ∥∥₁_elim owned_is (λ a b. absurd a) (λ later.
     let at = older_at (cases_eq other place) ((later.owns other chunk).ready_is (taken_of is.service other).count content ready).0 in
     let at_kept = subst (λ (n : ℕ). At (writer kept other).begun n (Completed chunk at.0)) count_is at.1 in
-    none other inside named chunk at.0 own (subst (λ (n : ℕ). n < ID_LIMIT) count_is low)
+    none other inside named chunk at.0 own (subst (λ (n : ℕ). n < POSITION_LIMIT) count_is low)
     ((owned.owns other chunk).completed_is (taken_of kept.service other).count at.0 at_kept (omega arith))))
   where
     count_is : (taken_of is.service other).count ≡ (taken_of kept.service other).count

@@ -10,7 +10,7 @@ use Rattle.trace_model.specs.History.{records_after}
 use Rattle.trace_model.specs.Packets.{AreCalls, account_of, emissions_of}
 use Rattle.model_laws.specs.Losses.{Loses}
 use Rattle.scenario_text.specs.Accepted.{AreAccepted}
-use Rattle.chunk_plain.specs.declared.tokens.TheConstants.{ID_LIMIT}
+use Rattle.chunk_plain.specs.declared.tokens.TheConstants.{POSITION_LIMIT}
 use Rattle.chunk_plain.specs.Histories.{history_of}
 use Rattle.chunk_plain.specs.Meaning.{Meaning}
 use Rattle.chunk_plain.specs.Views.{WriterView}
@@ -37,7 +37,7 @@ pub record IsReadyFor (size : ℕ) (view : WriterView) (coming : List Call) : Ty
   pub loses : Loses asked view.calls
   pub accepted : AreAccepted (account_of asked) coming
   pub possible : AreCalls (asked ++ coming)
-  pub few : most_chunks size (emissions_of (asked ++ coming)) + PACKET_IDS ≤ ID_LIMIT
+  pub few : most_chunks size (emissions_of (asked ++ coming)) + PACKET_IDS ≤ POSITION_LIMIT
 
 -- a text that a call writes has at most the bytes of an input
 abbrev pub IsShortCall : Call → Type 0

@@ -33,7 +33,7 @@ use Rattle.replay_host.specs.Playing.{IsTraceOf, KeepsBooks}
 -- each chunk of the producer is being written by another writer than the one at this place
 abbrev pub AreOthers : Setup → (producer place : ℕ) → World → Type 0
 AreOthers setup producer place world = (chunk : ℕ) → IsChunkOf setup producer chunk
-    → (other id : ℕ) × (draft : Draft) × (status world chunk ≡ Writing other id draft) × (other ≢ place)
+    → (other position : ℕ) × (draft : Draft) × (status world chunk ≡ Writing other position draft) × (other ≢ place)
 
 -- The writer stalls in the call that it was asked for: it has the policy to, and asks for a last help where it is out of chunks, behind a
 -- round of claims in vain of its own. The help takes nothing, and behind it the writer claims no more. Each of its producer's chunks is being

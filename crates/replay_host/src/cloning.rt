@@ -45,6 +45,7 @@ fn sequences_into(
         specs.push(SequenceSpec {
             sequence: place as u32 + FIRST_SEQUENCE,
             payload: producer.geometry.payload_size(),
+            from: writers[place].from,
         })?;
     }
     Ok(specs)

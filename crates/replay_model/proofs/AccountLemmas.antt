@@ -11,11 +11,11 @@ use Rattle.trace_base.specs.declared.policy.WriterSpec.{WriterSpec}
 use Rattle.trace_model.specs.Fragments.{drop_size}
 use Rattle.trace_model.specs.Images.{Image}
 use Rattle.trace_model.specs.Packets.{packets_of, emissions_of}
-use Rattle.trace_model.specs.Sequences.{Sequence, fresh, sequence_in, is_known}
+use Rattle.trace_model.specs.Sequences.{Sequence, IsFresh, sequence_in, is_known}
 use Rattle.trace_model.specs.Tells.{Tells}
 use Rattle.trace_model.specs.Delivery.{Delivered, IsFaithful, records_of}
 use Rattle.trace_model.specs.History.{records_after}
-use Rattle.chunk_plain.specs.Setup.{Setup, sequence_of}
+use Rattle.chunk_plain.specs.Setup.{Setup, sequence_of, no_writer}
 use Rattle.chunk_plain.specs.Views.{At, BegunChunk, Held, Completed, Content, Draft, taken_of, WriterView, newcomer}
 use Rattle.chunk_plain.specs.World.{World, writer}
 use Rattle.chunk_plain.specs.Histories.{completed_images, history_of}
@@ -36,7 +36,6 @@ use Rattle.world_model.proofs.MakingLemmas.{only_writers}
 use Rattle.world_model.proofs.FaithfulLemmas.{told_of, order_events}
 use Rattle.world_model.proofs.OwnLemmas.{image_at, elem_at}
 use Rattle.trace_writer.specs.Laws.{IsHeldImage}
-use Rattle.service_core.specs.Agreement.{no_writer}
 use Rattle.service_core.specs.OrderLaws.{HasImages}
 use Rattle.replay_model.specs.Does.{Wrote, is_shut}
 use Rattle.replay_model.specs.Written.{HasWritten}
@@ -51,7 +50,7 @@ pub get_seam : {A : Type 0} (xs : List A) (y : A) → slice_get (xs ++ y ∷ [])
 get_seam [] y = refl
 get_seam (x ∷ xs) y = get_seam xs y
 
--- an image that was completed is among those of all chunks, at its own id
+-- an image that was completed is among those of all chunks, at its own position
 completed_there : (begun : List BegunChunk) (i chunk : ℕ) (content : Content) → At begun i (Completed chunk content)
     → (n : ℕ) × (slice_get (completed_images begun) n ≡ Some content.image)
 completed_there [] i chunk content at = absurd (cc)
@@ -81,7 +80,7 @@ module _ (setup : Setup) (world : World) (owned : ∥ IsOwned world ∥₁) (pla
   abbrev images : List Image
   images = all_images (writer world place) wrote.held
 
-  -- the image of a completed chunk stands at its id
+  -- the image of a completed chunk stands at its position
   image_of_completed : (id chunk : ℕ) (content : Content) → At begun id (Completed chunk content) → slice_get images id ≡ Some content.image
   image_of_completed id chunk content at =
       let h = completed_there begun id chunk content at in
@@ -198,7 +197,7 @@ module _ (setup : Setup) (world : World) (owned : ∥ IsOwned world ∥₁) (pla
 
   -- the account of the sequence, in a buffer that has it
   pub account_in : IsSorted setup world.service → place < length setup.writers → (sequences : List Sequence) (record_size : ℕ)
-      → is_known sequences (place + 2) ≡ true → sequence_in sequences (place + 2) ≡ fresh (place + 2) record_size
+      → is_known sequences (place + 2) ≡ true → IsFresh (place + 2) record_size (sequence_in sequences (place + 2))
       → IsAccountOf (payload_at setup place) view.calls wrote.cut.cut.pages sequences (place + 2) record_size (history_of world.service)
   account_in sorted inside sequences record_size known start = record {
     possible = wrote.cut.possible;

@@ -119,7 +119,7 @@ wanted_few lines producers setup world buffer place (spec ∷ specs) fits =
 
     step : (b : Bool) → wanted (begun_of world) (sequences_from setup buffer (suc place) specs) ≤ bytes_from lines producers buffer (suc (suc place)) specs
         → wanted (begun_of world)
-        (cond b (fresh (place + 2) (record_size (size_of setup spec.producer)) ∷ sequences_from setup buffer (suc place) specs) (sequences_from setup buffer (suc place) specs))
+        (cond b (fresh (place + 2) (record_size (size_of setup spec.producer)) spec.from ∷ sequences_from setup buffer (suc place) specs) (sequences_from setup buffer (suc place) specs))
         ≤ cond b (most_chunks (payload_for producers spec) (emissions_of (calls_asked (suc place) lines)) * record_size (payload_for producers spec)) 0
         + bytes_from lines producers buffer (suc (suc place)) specs
     step true rest = let one = here in omega (arith, one, rest)

@@ -1,5 +1,5 @@
 -- What a clone tells that is made between two lines: behind a front of a scenario's acts each writer's chunks are an account.
-use Rattle.std.proofs.Common.{◌≡◌, ◌∙◌, ℕ, suc, ◌+◌, ◌-◌, ◌*◌, ◌<◌, ◌≤◌, Bool, true, false, cond, List, [], ◌∷◌, ◌++◌, length, Some, refl, sym, ap, subst, arith}
+use Rattle.std.proofs.Common.{◌≡◌, ◌∙◌, ℕ, suc, ◌+◌, ◌-◌, ◌*◌, ◌<◌, Bool, true, false, cond, List, [], ◌∷◌, length, Some, refl, sym, ap, subst, arith}
 use Rattle.std.specs.Prelude.{slice_get, ◌==◌}
 use Rattle.std.proofs.lemmas.Bool.{eq-eqb}
 use Rattle.std.proofs.lemmas.List.{length-map}
@@ -55,7 +55,7 @@ numbers_once setup n place [] = tt
 numbers_once setup n place (spec ∷ specs) = step (spec.buffer == n) (numbers_once setup n (suc place) specs)
   where
     step : (named : Bool) → NumbersOnce (sequences_from setup n (suc place) specs)
-        → NumbersOnce (cond named (fresh (place + 2) (record_size (size_of setup spec.producer)) ∷ sequences_from setup n (suc place) specs) (sequences_from setup n (suc place) specs))
+        → NumbersOnce (cond named (fresh (place + 2) (record_size (size_of setup spec.producer)) spec.from ∷ sequences_from setup n (suc place) specs) (sequences_from setup n (suc place) specs))
     step true rest = (not_there setup n (suc place) specs (place + 2) (omega arith), rest)
     step false rest = rest
 

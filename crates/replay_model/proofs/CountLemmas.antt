@@ -21,7 +21,7 @@ use Rattle.trace_model.specs.Reading.{Reading, Fragments, Unreadable, reading_of
 use Rattle.trace_model.specs.Sequences.{Sequence, sequence_in, is_known}
 use Rattle.model_laws.proofs.ReportLemmas.{counts_are_of_outcomes, reports_count_deliveries}
 use Rattle.delivery_laws.proofs.ReportLemmas.{accounts_are_histories}
-use Rattle.chunk_plain.specs.Setup.{Setup, sequence_of, size_of}
+use Rattle.chunk_plain.specs.Setup.{Setup, sequence_of, size_of, no_writer}
 use Rattle.chunk_plain.specs.World.{World, writer}
 use Rattle.chunk_plain.specs.Histories.{history_of}
 use Rattle.world_model.specs.FirstBuffers.{sequences_from}
@@ -29,7 +29,6 @@ use Rattle.world_model.proofs.MakingLemmas.{set_at}
 use Rattle.world_model.proofs.ProjectLemmas.{once_writes}
 use Rattle.scenario_text.specs.Scenario.{Parts}
 use Rattle.scenario_text.specs.Limits.{IsWriter, IsSetUp}
-use Rattle.service_core.specs.Agreement.{no_writer}
 use Rattle.service_core.specs.Routing.{buffer_at}
 use Rattle.replay_model.specs.Laws.{EveryReportCountsPackets}
 use Rattle.replay_model.specs.Played.{buffer_specs, buffers_of, buffers_in, packet_counts, first_buffer, CountsPackets}

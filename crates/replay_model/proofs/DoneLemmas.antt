@@ -5,13 +5,13 @@ use Rattle.std.proofs.lemmas.Option.{slice_get_within, get_or_from_slice_get, sl
 use Rattle.trace_base.specs.declared.policy.WriterSpec.{WriterSpec}
 use Rattle.trace_model.specs.Cut.{newest_goes_on}
 use Rattle.trace_model.specs.Packets.{packets_of, lost_count}
-use Rattle.trace_model.specs.Sequences.{Sequence, fresh, sequence_in, is_known}
+use Rattle.trace_model.specs.Sequences.{Sequence, IsFresh, sequence_in, is_known}
 use Rattle.model_laws.specs.Losses.{HasShapeOf}
 use Rattle.model_laws.proofs.LossLemmas.{losses_change_no_shape}
 use Rattle.delivery_laws.specs.DeliveryLaws.{IsAccountOf}
 use Rattle.delivery_laws.specs.Orders as orders
 use Rattle.delivery_laws.specs.WriterSheets.{sheets_of}
-use Rattle.chunk_plain.specs.Setup.{Setup}
+use Rattle.chunk_plain.specs.Setup.{Setup, no_writer}
 use Rattle.chunk_plain.specs.World.{World, writer}
 use Rattle.chunk_plain.specs.Histories.{history_of}
 use Rattle.world_model.specs.FirstBuffers.{payload_at}
@@ -19,7 +19,7 @@ use Rattle.scenario_text.specs.Scenario.{Parts}
 use Rattle.scenario_text.specs.Accepted.{calls_asked}
 use Rattle.trace_writer.specs.Claims.{KeepsClaims}
 use Rattle.trace_writer.specs.Helping.{loses}
-use Rattle.service_core.specs.Agreement.{spec_at, no_writer}
+use Rattle.service_core.specs.Agreement.{spec_at}
 use Rattle.replay_model.specs.Flushes.{FlushNote}
 use Rattle.replay_model.specs.Played.{IsSetupOf, IsPlayed, buffers_of}
 use Rattle.replay_model.specs.Written.{HasWritten}
@@ -76,7 +76,7 @@ module _ (scenario : Parts) (setup : Setup) (world : World) (done : IsDone scena
 
   -- the account of a writer's sequence, in a buffer that has it
   pub account_of : (place : ℕ) (inside : place < length setup.writers) (sequences : List Sequence) (record_size : ℕ)
-      → is_known sequences (place + 2) ≡ true → sequence_in sequences (place + 2) ≡ fresh (place + 2) record_size
+      → is_known sequences (place + 2) ≡ true → IsFresh (place + 2) record_size (sequence_in sequences (place + 2))
       → IsAccountOf (payload_at setup place) (writer world place).calls (done.wrote place inside).cut.cut.pages sequences (place + 2) record_size (history_of world.service)
   account_of place inside sequences record_size known start = record {
     possible = (done.wrote place inside).cut.possible;

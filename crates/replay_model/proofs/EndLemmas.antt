@@ -11,7 +11,7 @@ use Rattle.trace_model.specs.Buffers.{Buffer}
 use Rattle.trace_model.specs.Calls.{Call, Flushed}
 use Rattle.trace_model.specs.Images.{Image}
 use Rattle.trace_model.specs.Packets.{Packet, Account, noted, nothing_yet, account_of, is_lost}
-use Rattle.chunk_plain.specs.declared.tokens.TheConstants.{ID_LIMIT}
+use Rattle.chunk_plain.specs.declared.tokens.TheConstants.{POSITION_LIMIT}
 use Rattle.chunk_plain.specs.Setup.{Setup, producer_of, sequence_of, IsChunkOf}
 use Rattle.chunk_plain.specs.Views.{At, BegunChunk, Held, Completed, Content, Draft, ServiceView, taken_of, WriterView, newcomer}
 use Rattle.chunk_plain.specs.World.{World, writer}
@@ -190,7 +190,7 @@ held_or_completed begun i (Completed chunk content) at = inr (chunk, content, at
 
 -- where a writer holds nothing and nothing of it is complete, all its chunks are taken
 all_taken : (setup : Setup) (place : ℕ) (world : World) → IsOwned world → place < length setup.writers → NoneLeft setup (producer_of setup place) world
-    → Wrote setup place (writer world place) → held_count (writer world place).begun ≡ 0 → length (writer world place).begun ≤ ID_LIMIT
+    → Wrote setup place (writer world place) → held_count (writer world place).begun ≡ 0 → length (writer world place).begun ≤ POSITION_LIMIT
     → length (writer world place).begun ≤ (taken_of world.service place).count
 all_taken setup place world owned inside none wrote empty few = by_order (cases_lt (taken_of world.service place).count (length (writer world place).begun))
   where
@@ -240,7 +240,7 @@ closes_whole setup producer place old new stands closes whole =
 
 -- the taking of its producer takes all of a writer that holds nothing
 pub collect_takes : (setup : Setup) (place : ℕ) (old new : World) → Stands setup new → ∥ IsOwned new ∥₁ → place < length setup.writers
-    → Collects setup (producer_of setup place) old new → held_count (writer new place).begun ≡ 0 → length (writer new place).begun ≤ ID_LIMIT → IsTakenWhole new place
+    → Collects setup (producer_of setup place) old new → held_count (writer new place).begun ≡ 0 → length (writer new place).begun ≤ POSITION_LIMIT → IsTakenWhole new place
 collect_takes setup place old new stands owned inside collects empty few = record {
   empty = empty;
   most = ∥∥₁_elim owned (hlevel le_prop) (λ (is : IsOwned new). all_taken setup place new is inside collects.none_left (stands.wrote place inside) empty few);

@@ -32,7 +32,7 @@ use Rattle.delivery_laws.proofs.OrderLemmas.{every_writer_is_told}
 use Rattle.delivery_laws.proofs.WrittenPackets.{are_full}
 use Rattle.delivery_laws.proofs.EnoughLemmas.{emissions_few}
 use Rattle.chunk_plain.specs.Plain.{first_world}
-use Rattle.chunk_plain.specs.Setup.{Setup, sequence_of, size_of}
+use Rattle.chunk_plain.specs.Setup.{Setup, sequence_of, size_of, no_writer}
 use Rattle.chunk_plain.specs.Views.{At, Completed, Content, ServiceView, taken_of, WriterView, newcomer}
 use Rattle.chunk_plain.specs.World.{World, writer}
 use Rattle.chunk_plain.specs.Owned.{IsOwned}
@@ -44,7 +44,7 @@ use Rattle.world_model.proofs.OwnLemmas.{elem_at, page_of}
 use Rattle.scenario_text.specs.declared.scenario.BufferLine.{BufferLine}
 use Rattle.scenario_text.specs.Scenario.{Parts}
 use Rattle.scenario_text.specs.Limits.{IsSetUp, IsWriter}
-use Rattle.service_core.specs.Agreement.{spec_at, no_writer}
+use Rattle.service_core.specs.Agreement.{spec_at}
 use Rattle.service_core.specs.Order.{beginning}
 use Rattle.service_core.specs.Reading.{reads_in}
 use Rattle.service_core.specs.Routing.{buffer_at}

@@ -11,7 +11,7 @@ use Rattle.trace_model.specs.Enough.{most_chunks}
 use Rattle.trace_model.specs.Packets.{Packet, packets_of, is_writing, emissions_in, emissions_of}
 use Rattle.model_laws.specs.Losses.{HasShapeOf}
 use Rattle.model_laws.proofs.LossLemmas.{losses_change_no_shape}
-use Rattle.chunk_plain.specs.declared.tokens.TheConstants.{ID_LIMIT}
+use Rattle.chunk_plain.specs.declared.tokens.TheConstants.{POSITION_LIMIT}
 use Rattle.chunk_plain.specs.Plain.{first_world}
 use Rattle.chunk_plain.specs.Setup.{Setup, producer_of}
 use Rattle.chunk_plain.specs.Views.{At, Completed, Content, taken_of}
@@ -51,7 +51,7 @@ use Rattle.replay_model.proofs.StaysLemmas.{completed_at, plays_keeps}
 -- The taking of its producer takes all that a writer had completed at some time before, whatever it holds by now.
 collect_meets : (setup : Setup) (place many : ℕ) (old new : World) → ∥ IsOwned new ∥₁ → place < length setup.writers → Wrote setup place (writer new place)
     → Collects setup (producer_of setup place) old new
-    → ((i : ℕ) → i < many → (chunk : ℕ) × (content : Content) × At (writer new place).begun i (Completed chunk content)) → many ≤ ID_LIMIT
+    → ((i : ℕ) → i < many → (chunk : ℕ) × (content : Content) × At (writer new place).begun i (Completed chunk content)) → many ≤ POSITION_LIMIT
     → many ≤ (taken_of new.service place).count
 collect_meets setup place many old new owned inside wrote collects there few =
     ∥∥₁_elim owned (hlevel le_prop) (λ (is : IsOwned new). by_order is (cases_lt (taken_of new.service place).count many))
@@ -146,7 +146,7 @@ module _ (scenario : Parts) (setup : Setup) (is_setup : IsSetupOf scenario setup
       (subst (λ (acts : List Act). Plays setup buffers acts (first_world setup) whole.mid whole.notes) (sym up_to_end) whole.first) place)
 
   module _ (ended_by_lines : is_writing (packets_of (calls_asked (suc place) (before ++ end ∷ []))) ≡ false)
-      (few_ids : most_chunks (payload_at setup place) (emissions_of (calls_asked (suc place) (before ++ end ∷ []))) ≤ ID_LIMIT) where
+      (few_ids : most_chunks (payload_at setup place) (emissions_of (calls_asked (suc place) (before ++ end ∷ []))) ≤ POSITION_LIMIT) where
     abbrev asked : World
     asked = answer.mid
 
@@ -171,9 +171,9 @@ module _ (scenario : Parts) (setup : Setup) (is_setup : IsSetupOf scenario setup
     packets_same : packets_of (writer answered place).calls ≡ packets_of (writer asked place).calls
     packets_same = ap packets_of (flush_calls setup place asked answered flushed.1) ∙ flush_packets (writer asked place).calls
 
-    few_chunks : most_chunks (payload_at setup place) (emissions_of (writer asked place).calls) ≤ ID_LIMIT
+    few_chunks : most_chunks (payload_at setup place) (emissions_of (writer asked place).calls) ≤ POSITION_LIMIT
     few_chunks =
-        subst (λ (es : List (List ℕ)). most_chunks (payload_at setup place) es ≤ ID_LIMIT)
+        subst (λ (es : List (List ℕ)). most_chunks (payload_at setup place) es ≤ POSITION_LIMIT)
         (sym shape.emitted ∙ ap (λ (w : World). emissions_of (writer w place).calls) same_end ∙ ap (λ (ps : List Packet). emissions_in ps) packets_same) few_ids
 
     abbrev many : ℕ

@@ -87,7 +87,7 @@ module _ (world : World) (owned : HasOwned world) (place : ℕ) where
 
   -- what a look found of a chunk is there still
   still : (id : ℕ) (one : BegunChunk) → At begun id one → (n : ℕ) (look : Look) (found : Found) → At world.service.looks n look → look.found ≡ Some found
-      → found.place ≡ place → found.id ≡ id → (chunks : List Status) → IsOwned (with_chunks world chunks) → StillHas look.chunk found one
+      → found.place ≡ place → found.position ≡ id → (chunks : List Status) → IsOwned (with_chunks world chunks) → StillHas look.chunk found one
   still id one at n look found there is place_is id_is chunks owns =
       let thing : IsThere (writer world place) look.chunk found = subst (λ (p : ℕ). IsThere (writer world p) look.chunk found) place_is (owns.looks n look found there is).1 in
       let entry_at : At begun id thing.entry = subst (λ (i : ℕ). At begun i thing.entry) id_is thing.at in
@@ -101,8 +101,8 @@ module _ (world : World) (owned : HasOwned world) (place : ℕ) where
         looked_at : IsLooked (place + 2 - 2) id count world.service.looks part.found
         looked_at = looked (place + 2 - 2) id count world.service.looks part.found part.looked
 
-        named_so : (part.found.place ≡ place) × (part.found.id ≡ id)
-        named_so = let back : place + 2 - 2 ≡ place = omega arith in (looked_at.place_is ∙ back, looked_at.id_is)
+        named_so : (part.found.place ≡ place) × (part.found.position ≡ id)
+        named_so = let back : place + 2 - 2 ≡ place = omega arith in (looked_at.place_is ∙ back, looked_at.position_is)
 
         inside : id < length begun
         inside = by_owned world (id < length begun) owned (hlevel le_prop) (λ chunks is.

@@ -7,7 +7,7 @@ use Rattle.trace_model.specs.Counts.{last_count}
 use Rattle.trace_model.specs.Reads.{delivered_by, with_read}
 use Rattle.trace_model.specs.History as model
 use Rattle.trace_model.specs.History.{Event, buffers_after, reads_of}
-use Rattle.chunk_plain.specs.declared.tokens.TheConstants.{ID_LIMIT}
+use Rattle.chunk_plain.specs.declared.tokens.TheConstants.{POSITION_LIMIT}
 use Rattle.chunk_plain.specs.Setup.{Setup, producer_of, sequence_of}
 use Rattle.chunk_plain.specs.Views.{BegunChunk, Noted, ServiceView}
 use Rattle.chunk_plain.specs.World.{World, writer}
@@ -39,7 +39,7 @@ collects_keep setup buffers (producer ∷ producers) place old new notes plays s
 
 pub collect_phase : (setup : Setup) (buffers : List Buffer) (producers : List ℕ) (place : ℕ) (old new : World) (notes : List FlushNote)
     → Plays setup buffers (map Collect producers) old new notes → Stands setup old → place < length setup.writers → Among (producer_of setup place) producers
-    → held_count (writer old place).begun ≡ 0 → length (writer old place).begun ≤ ID_LIMIT → IsTakenWhole new place
+    → held_count (writer old place).begun ≡ 0 → length (writer old place).begun ≤ POSITION_LIMIT → IsTakenWhole new place
 collect_phase setup buffers [] place old new notes plays stands inside among empty few = absurd among
 collect_phase setup buffers (producer ∷ producers) place old new notes plays stands inside among empty few =
     by_head (λ then later none less. collect_phase setup buffers producers place plays.0 new plays.1 plays.5 then inside later none less) among
@@ -53,11 +53,11 @@ collect_phase setup buffers (producer ∷ producers) place old new notes plays s
     empty_next : held_count (writer plays.0 place).begun ≡ 0
     empty_next = ap held_count same ∙ empty
 
-    few_next : length (writer plays.0 place).begun ≤ ID_LIMIT
+    few_next : length (writer plays.0 place).begun ≤ POSITION_LIMIT
     few_next = let long = ap (λ (xs : List BegunChunk). length xs) same in omega (arith, long, few)
 
     by_head : (Stands setup plays.0 → Among (producer_of setup place) producers → held_count (writer plays.0 place).begun ≡ 0
-        → length (writer plays.0 place).begun ≤ ID_LIMIT → IsTakenWhole new place)
+        → length (writer plays.0 place).begun ≤ POSITION_LIMIT → IsTakenWhole new place)
         → (producer ≡ producer_of setup place) ⊎ Among (producer_of setup place) producers → IsTakenWhole new place
     by_head rest (inl mine) =
         collects_keep setup buffers producers place plays.0 new plays.1 plays.5 next

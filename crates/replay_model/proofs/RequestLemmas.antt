@@ -17,9 +17,9 @@ use Rattle.trace_model.proofs.PageLemmas.{images_long}
 use Rattle.model_laws.specs.Losses.{HasShapeOf}
 use Rattle.model_laws.proofs.ChunkCountLemmas.{every_page_is_counted}
 use Rattle.model_laws.proofs.LossLemmas.{losses_change_no_shape}
-use Rattle.chunk_plain.specs.declared.tokens.TheConstants.{ID_LIMIT}
+use Rattle.chunk_plain.specs.declared.tokens.TheConstants.{POSITION_LIMIT}
 use Rattle.chunk_plain.specs.Plain.{first_world}
-use Rattle.chunk_plain.specs.Setup.{Setup, producer_of, size_of, sequence_of}
+use Rattle.chunk_plain.specs.Setup.{Setup, producer_of, size_of, sequence_of, no_writer}
 use Rattle.chunk_plain.specs.Views.{WriterView, taken_of}
 use Rattle.chunk_plain.specs.World.{World, writer}
 use Rattle.chunk_plain.specs.Owned.{IsOwned, held_count}
@@ -32,7 +32,7 @@ use Rattle.scenario_text.specs.declared.scenario.LineKind.TheVariants as line
 use Rattle.scenario_text.specs.Scenario.{Parts}
 use Rattle.scenario_text.specs.Accepted.{calls_asked, is_closed_by}
 use Rattle.scenario_text.specs.Limits.{IsSetUp, IsWriter}
-use Rattle.service_core.specs.Agreement.{spec_at, no_writer}
+use Rattle.service_core.specs.Agreement.{spec_at}
 use Rattle.replay_model.specs.Acts.{Act, Ask, Request, Answer, Collect, ReadAll}
 use Rattle.replay_model.specs.Does.{Asks}
 use Rattle.replay_model.specs.Flushes.{FlushNote}
@@ -215,7 +215,7 @@ module _ (scenario : Parts) (setup : Setup) (is_setup : IsSetupOf scenario setup
     -- the writer flushes, others answer, and the open producers' chunks are taken
     taken_met : (answered taken : World) (others producers : List ℕ) (more : List FlushNote) → Asks setup place Flushed asked answered → ∥ IsOwned answered ∥₁
         → is_writing (packets_of (writer asked place).calls) ≡ false
-        → most_chunks (payload_at setup place) (emissions_of (writer asked place).calls) ≤ ID_LIMIT
+        → most_chunks (payload_at setup place) (emissions_of (writer asked place).calls) ≤ POSITION_LIMIT
         → ((p : ℕ) → Among p others → p ≢ place) → Among (producer_of setup place) producers
         → Plays setup buffers (map Answer others ++ map Collect producers) answered taken more
         → length (completed_images (writer answered place).begun) ≤ (taken_of taken.service place).count
@@ -291,7 +291,7 @@ module _ (scenario : Parts) (setup : Setup) (is_setup : IsSetupOf scenario setup
     few_begun = begun_few (before ++ (request ∷ (between ++ (last ∷ [])))) world notes plays
 
     pub settled : length (before ++ (request ∷ (between ++ (last ∷ [])))) ≤ last_count → is_writing (packets_of (calls_asked (suc place) before)) ≡ false
-        → most_chunks (payload_at setup place) (emissions_of (calls_asked (suc place) before)) ≤ ID_LIMIT
+        → most_chunks (payload_at setup place) (emissions_of (calls_asked (suc place) before)) ≤ POSITION_LIMIT
         → (asked : World) × (earlier : List FlushNote) × Plays setup buffers (acts_from scenario [] before) (first_world setup) asked earlier
         × HasSettled scenario setup place asked world
     settled few_lines ended_by_lines few_ids = (whole.mid, whole.notes, whole.first, by_request (shape.writing ∙ ended_by_lines) few_chunks)
@@ -302,11 +302,11 @@ module _ (scenario : Parts) (setup : Setup) (is_setup : IsSetupOf scenario setup
         shape : HasShapeOf (calls_asked (suc place) before) (writer whole.mid place).calls
         shape = losses_change_no_shape (calls_asked (suc place) before) (writer whole.mid place).calls (lines_lose scenario setup buffers before whole.mid whole.notes whole.first place)
 
-        few_chunks : most_chunks (payload_at setup place) (emissions_of (writer whole.mid place).calls) ≤ ID_LIMIT
-        few_chunks = subst (λ (es : List (List ℕ)). most_chunks (payload_at setup place) es ≤ ID_LIMIT) (sym shape.emitted) few_ids
+        few_chunks : most_chunks (payload_at setup place) (emissions_of (writer whole.mid place).calls) ≤ POSITION_LIMIT
+        few_chunks = subst (λ (es : List (List ℕ)). most_chunks (payload_at setup place) es ≤ POSITION_LIMIT) (sym shape.emitted) few_ids
 
         by_request : is_writing (packets_of (writer whole.mid place).calls) ≡ false
-            → most_chunks (payload_at setup place) (emissions_of (writer whole.mid place).calls) ≤ ID_LIMIT → HasSettled scenario setup place whole.mid world
+            → most_chunks (payload_at setup place) (emissions_of (writer whole.mid place).calls) ≤ POSITION_LIMIT → HasSettled scenario setup place whole.mid world
         by_request ended ids =
             let made : World = whole.second.0 in
             let firsts = plays_split setup buffers (map Answer among.first) _ whole.second.0 world whole.second.1 whole.second.5 in
@@ -317,8 +317,8 @@ module _ (scenario : Parts) (setup : Setup) (is_setup : IsSetupOf scenario setup
             (answers_alone place among.first [] (λ p is e. let low = among.below p is in absurd (omega (arith, low, e))) tt))
             ∙ ap (λ (w : World). writer w place) whole.second.2 in
             let ended_now : is_writing (packets_of (writer firsts.mid place).calls) ≡ false = ap (λ (v : WriterView). is_writing (packets_of v.calls)) same ∙ ended in
-            let ids_now : most_chunks (payload_at setup place) (emissions_of (writer firsts.mid place).calls) ≤ ID_LIMIT =
-            subst (λ (v : WriterView). most_chunks (payload_at setup place) (emissions_of v.calls) ≤ ID_LIMIT) (sym same) ids in
+            let ids_now : most_chunks (payload_at setup place) (emissions_of (writer firsts.mid place).calls) ≤ POSITION_LIMIT =
+            subst (λ (v : WriterView). most_chunks (payload_at setup place) (emissions_of v.calls) ≤ POSITION_LIMIT) (sym same) ids in
             let asks : Asks setup place Flushed firsts.mid firsts.second.0 =
             match_false (firsts.second.0 ≡ firsts.mid) (Asks setup place Flushed firsts.mid firsts.second.0) (is_writing (packets_of (writer firsts.mid place).calls)) ended_now firsts.second.2 in
             let taking = plays_split setup buffers (map Answer among.others ++ map Collect (open_producers before 1 scenario.producers)) (onward ++ reading ∷ [])

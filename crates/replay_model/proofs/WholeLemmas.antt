@@ -13,7 +13,7 @@ use Rattle.trace_model.specs.Enough.{most_chunks}
 use Rattle.trace_model.specs.History.{buffers_after}
 use Rattle.trace_model.specs.Packets.{emissions_of, begun_count}
 use Rattle.delivery_laws.specs.Finishing.{Finishes}
-use Rattle.chunk_plain.specs.declared.tokens.TheConstants.{ID_LIMIT}
+use Rattle.chunk_plain.specs.declared.tokens.TheConstants.{POSITION_LIMIT}
 use Rattle.chunk_plain.specs.Setup.{Setup, producer_of, sequence_of}
 use Rattle.chunk_plain.specs.Plain.{first_world}
 use Rattle.chunk_plain.specs.Views.{BegunChunk, Completed, WriterView, newcomer, taken_of}
@@ -122,7 +122,7 @@ module _ (scenario : Parts) (setup : Setup) (world : World) (notes : List FlushN
 
   -- ---- ids are left
 
-  ids_left : length (writer world place).begun ≤ ID_LIMIT
+  ids_left : length (writer world place).begun ≤ POSITION_LIMIT
   ids_left =
       let one = bytes_least scenario.lines scenario.producers spec.buffer 1 scenario.writers place spec get refl in
       let payload : ℕ = payload_for scenario.producers spec in

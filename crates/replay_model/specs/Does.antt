@@ -51,8 +51,8 @@ abbrev pub AreOpen : Setup → (producer : ℕ) → ServiceView → Type 0
 AreOpen setup producer service =
     (place : ℕ) → place < length setup.writers → producer_of setup place ≡ producer → is_shut (sequence_of place) service.events ≡ false
 
--- The producer's complete chunks are taken, so many: writer by writer in rising number, each one's in rising id. None is complete behind
--- it.
+-- The producer's complete chunks are taken, so many: writer by writer in rising number, each one's in rising position. None is complete
+-- behind it.
 pub record Collects (setup : Setup) (producer : ℕ) (old new : World) : Type 0 where
   pub opened : AreOpen setup producer old.service
   pub writers : new.writers ≡ old.writers

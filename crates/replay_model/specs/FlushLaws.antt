@@ -10,7 +10,7 @@ use Rattle.trace_model.specs.Packets.{packets_of, is_writing, emissions_of, begu
 use Rattle.trace_model.specs.Pages.{Page}
 use Rattle.trace_model.specs.Written.{chains_of}
 use Rattle.delivery_laws.specs.FlushLaws.{IsFlushed, AreSettled}
-use Rattle.chunk_plain.specs.declared.tokens.TheConstants.{ID_LIMIT}
+use Rattle.chunk_plain.specs.declared.tokens.TheConstants.{POSITION_LIMIT}
 use Rattle.chunk_plain.specs.Setup.{Setup, producer_of, sequence_of}
 use Rattle.chunk_plain.specs.Plain.{first_world}
 use Rattle.chunk_plain.specs.Views.{WriterView, taken_of}
@@ -106,7 +106,7 @@ EveryRequestIsSettled = (scenario : Parts) (setup : Setup) → IsSetupOf scenari
     → request.what ≡ line.Request → last.what ≡ line.Read (spec_at setup.writers place).buffer last_count
     → length (before ++ (request ∷ (between ++ (last ∷ [])))) ≤ last_count
     → is_writing (packets_of (calls_asked (suc place) before)) ≡ false
-    → most_chunks (payload_at setup place) (emissions_of (calls_asked (suc place) before)) ≤ ID_LIMIT
+    → most_chunks (payload_at setup place) (emissions_of (calls_asked (suc place) before)) ≤ POSITION_LIMIT
     → (asked : World) × (earlier : List FlushNote)
     × Plays setup (buffers_of scenario setup) (acts_from scenario [] before) (first_world setup) asked earlier
     × HasSettled scenario setup place asked world
@@ -124,7 +124,7 @@ EveryLateAnswerIsSettled = (scenario : Parts) (setup : Setup) → IsSetupOf scen
     → collect.what ≡ line.Collect (producer_of setup place) → last.what ≡ line.Read (spec_at setup.writers place).buffer last_count
     → length (before ++ (end ∷ (between ++ (collect ∷ (onward ++ (last ∷ [])))))) ≤ last_count
     → is_writing (packets_of (calls_asked (suc place) (before ++ end ∷ []))) ≡ false
-    → most_chunks (payload_at setup place) (emissions_of (calls_asked (suc place) (before ++ end ∷ []))) ≤ ID_LIMIT
+    → most_chunks (payload_at setup place) (emissions_of (calls_asked (suc place) (before ++ end ∷ []))) ≤ POSITION_LIMIT
     → (asked : World) × (earlier : List FlushNote)
     × Plays setup (buffers_of scenario setup) (acts_from scenario [] before ++ asks place (line_calls (suc place) (line.End (suc place)))) (first_world setup)
     asked earlier × HasSettled scenario setup place asked world

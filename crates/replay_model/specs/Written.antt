@@ -9,7 +9,7 @@ use Rattle.world_model.specs.Accounts.{all_images, HasCut}
 use Rattle.service_core.specs.OrderLaws.{HasImages}
 
 -- The writer at this place has cut its packets into its own chunks: the images of the cut's pages are those of the chunks that it began, by
--- their ids. Each chunk has its image, the held one last, and there are no others.
+-- their positions. Each chunk has its image, the held one last, and there are no others.
 pub record HasWritten (setup : Setup) (place : ℕ) (view : WriterView) : Type 0 where
   pub held : List Image
   pub cut : HasCut (payload_at setup place) place view held

@@ -3,10 +3,9 @@ use Rattle.std.proofs.Common.{◌≡◌, ◌∙◌, ℕ, ◌+◌, ◌<◌, ◌�
 use Rattle.std.proofs.lemmas.Bool.{cases_lt}
 use Rattle.std.proofs.lemmas.List.{length-map}
 use Rattle.std.proofs.lemmas.Option.{slice_get-get_or}
-use Rattle.trace_base.specs.declared.policy.WriterPolicy.TheVariants.{Drops}
 use Rattle.trace_base.specs.declared.policy.WriterSpec.{WriterSpec}
 use Rattle.trace_model.specs.Images.{Image}
-use Rattle.chunk_plain.specs.Setup.{Setup, IsLaid, sequence_of}
+use Rattle.chunk_plain.specs.Setup.{Setup, IsLaid, sequence_of, no_writer}
 use Rattle.chunk_plain.specs.Views.{WriterView, newcomer}
 use Rattle.chunk_plain.specs.World.{World, writer}
 use Rattle.chunk_plain.specs.Plain.{first_world}
@@ -27,12 +26,12 @@ use Rattle.schedule_laws.proofs.CommitLemmas.{none_committed, serving_is_in_orde
 use Rattle.chunk_schedules.proofs.ScheduleLemmas.{schedules_keep_ownership}
 
 -- the world that a schedule leads to is owned, with as many writers as the set-up
-pub owned_behind : (setup : Setup) (moves : List Move) (world : World) → IsSchedule (first_world setup) moves world → IsOwned world
-owned_behind setup moves world schedule = (schedules_keep_ownership (first_world setup) world moves (first_owned setup) schedule).0
+pub owned_behind : (setup : Setup) (moves : List Move) (world : World) → IsSchedule setup (first_world setup) moves world → IsOwned world
+owned_behind setup moves world schedule = (schedules_keep_ownership setup (first_world setup) world moves (first_owned setup) schedule).0
 
-pub many_behind : (setup : Setup) (moves : List Move) (world : World) → IsSchedule (first_world setup) moves world → length world.writers ≡ length setup.writers
+pub many_behind : (setup : Setup) (moves : List Move) (world : World) → IsSchedule setup (first_world setup) moves world → length world.writers ≡ length setup.writers
 many_behind setup moves world schedule =
-    (schedules_keep_ownership (first_world setup) world moves (first_owned setup) schedule).1 ∙ length-map setup.writers (λ (_ : WriterSpec). newcomer)
+    (schedules_keep_ownership setup (first_world setup) world moves (first_owned setup) schedule).1 ∙ length-map setup.writers (λ (_ : WriterSpec). newcomer)
 
 -- notes that lead on are in order
 pub in_order : (setup : Setup) (world : World) (place : ℕ) → IsOwned world → (wrote : HasWritten setup place (writer world place)) → IsNotedInOrder world.service place
@@ -92,8 +91,8 @@ every_sequence_is_told setup buffers moves world laid schedule place inside betw
     let view : WriterView = writer world place in
     let wrote = has_written setup place view laid between in
     let counts = owned.counts place in
-    let spec : WriterSpec = get_or setup.writers place (record { producer = 0; buffer = 0; policy = Drops }) in
-    let get = slice_get-get_or setup.writers place (record { producer = 0; buffer = 0; policy = Drops }) inside in
+    let spec : WriterSpec = get_or setup.writers place no_writer in
+    let get = slice_get-get_or setup.writers place no_writer inside in
     told_of (payload_at setup place) place view wrote.held wrote.cut world.service counts.learnt
     (λ n chunk content at. (counts.named n chunk content at).0) (λ n look found at is. (owned.looks n look found at is).0)
     setup buffers spec get (in_order setup world place owned wrote noted)

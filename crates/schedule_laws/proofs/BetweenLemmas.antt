@@ -3,13 +3,12 @@ use Rattle.std.proofs.Common.{◌≡◌, ◌∙◌, ℕ, zero, suc, ◌+◌, ◌
 use Rattle.std.specs.Prelude.{slice_get}
 use Rattle.std.proofs.lemmas.Option.{same_Some, slice_get-get_or, slice_get_within}
 use Rattle.trace_base.proofs.Lists.{get_more}
-use Rattle.trace_base.specs.declared.policy.WriterPolicy.TheVariants.{Drops}
 use Rattle.trace_base.specs.declared.policy.WriterSpec.{WriterSpec}
 use Rattle.trace_model.specs.Fragments.{drop_size}
 use Rattle.trace_model.specs.Images.{Image}
 use Rattle.trace_model.specs.Packets.{Account, account_of}
 use Rattle.commit_body.specs.Pending.{Pending}
-use Rattle.chunk_plain.specs.Setup.{Setup, IsLaid, HasProducer, IsChunkOf, range_of, producer_of}
+use Rattle.chunk_plain.specs.Setup.{Setup, IsLaid, HasProducer, IsChunkOf, range_of, producer_of, no_writer}
 use Rattle.chunk_plain.specs.Views.{At, BegunChunk, Held, Completed, Content, Draft, WriterView}
 use Rattle.chunk_plain.specs.Histories.{completed_images}
 use Rattle.chunk_plain.proofs.Lists.{at_more, at_one}
@@ -38,19 +37,19 @@ use Rattle.schedule_laws.specs.Resting.{IsBetweenCalls}
 
 -- ---- chunks that were begun
 
--- where none is held, each has its image under its own id
-completed_there : (begun : List BegunChunk) (id chunk : ℕ) (content : Content) → NoneHeld begun → At begun id (Completed chunk content)
-    → slice_get (completed_images begun) id ≡ Some content.image
-completed_there [] id chunk content none at = absurd (cc)
-completed_there (Held other draft ∷ begun) id chunk content none at = absurd none
+-- where none is held, each has its image at its own position
+completed_there : (begun : List BegunChunk) (position chunk : ℕ) (content : Content) → NoneHeld begun → At begun position (Completed chunk content)
+    → slice_get (completed_images begun) position ≡ Some content.image
+completed_there [] position chunk content none at = absurd (cc)
+completed_there (Held other draft ∷ begun) position chunk content none at = absurd none
 completed_there (Completed other one ∷ begun) zero chunk content none at = let same : one ≡ content = cc in ap (λ (c : Content). Some c.image) same
-completed_there (Completed other one ∷ begun) (suc id) chunk content none at = completed_there begun id chunk content none at
+completed_there (Completed other one ∷ begun) (suc position) chunk content none at = completed_there begun position chunk content none at
 
-held_nowhere : (begun : List BegunChunk) (id chunk : ℕ) (draft : Draft) → NoneHeld begun → At begun id (Held chunk draft) → ⊥
-held_nowhere [] id chunk draft none at = absurd (cc)
-held_nowhere (Held other one ∷ begun) id chunk draft none at = none
+held_nowhere : (begun : List BegunChunk) (position chunk : ℕ) (draft : Draft) → NoneHeld begun → At begun position (Held chunk draft) → ⊥
+held_nowhere [] position chunk draft none at = absurd (cc)
+held_nowhere (Held other one ∷ begun) position chunk draft none at = none
 held_nowhere (Completed other one ∷ begun) zero chunk draft none at = absurd (cc)
-held_nowhere (Completed other one ∷ begun) (suc id) chunk draft none at = held_nowhere begun id chunk draft none at
+held_nowhere (Completed other one ∷ begun) (suc position) chunk draft none at = held_nowhere begun position chunk draft none at
 
 completed_long : (begun : List BegunChunk) → NoneHeld begun → length (completed_images begun) ≡ length begun
 completed_long [] none = refl
@@ -118,24 +117,24 @@ holding_of site account view pending place (Stalled next_id) is published = inl 
 -- ---- the images of all chunks
 
 -- each image is of the payload's size, which is smaller than the value of a drop mark
-small_image : (size place : ℕ) (view : WriterView) (held : List Image) → HasCut size place view held → (id : ℕ) (image : Image)
-    → slice_get (all_images view held) id ≡ Some image → length image.payload < drop_size
-small_image size place view held cut id image there =
-    let paged = image_at (place + 2) 0 cut.cut.pages id image (subst (λ (xs : List Image). slice_get xs id ≡ Some image) cut.cut.images_are there) in
-    let full = full_at size cut.cut.pages id paged.page (are_full size cut.cut.pages cut.cut.cut.full) paged.get in
+small_image : (size place : ℕ) (view : WriterView) (held : List Image) → HasCut size place view held → (position : ℕ) (image : Image)
+    → slice_get (all_images view held) position ≡ Some image → length image.payload < drop_size
+small_image size place view held cut position image there =
+    let paged = image_at (place + 2) 0 cut.cut.pages position image (subst (λ (xs : List Image). slice_get xs position ≡ Some image) cut.cut.images_are there) in
+    let full = full_at size cut.cut.pages position paged.page (are_full size cut.cut.pages cut.cut.cut.full) paged.get in
     let long : length image.payload ≡ size = ap (λ (one : Image). length one.payload) paged.is ∙ full.whole in
     let small = cut.small in
     omega (arith, long, small)
 
 -- what is asked of a chunk that a writer holds
 abbrev IsHeldThere : List Image → ℕ → Draft → Type 0
-IsHeldThere images id draft = (image : Image) × (slice_get images id ≡ Some image) × StandsInWords draft image × (length image.payload < drop_size)
+IsHeldThere images position draft = (image : Image) × (slice_get images position ≡ Some image) × StandsInWords draft image × (length image.payload < drop_size)
 
-module _ (view : WriterView) (held : List Image) (small : (id : ℕ) (image : Image) → slice_get (all_images view held) id ≡ Some image → length image.payload < drop_size) where
+module _ (view : WriterView) (held : List Image) (small : (position : ℕ) (image : Image) → slice_get (all_images view held) position ≡ Some image → length image.payload < drop_size) where
   images_none : NoneHeld view.begun → HasImages view (all_images view held)
   images_none none = record {
-    completed = λ id chunk content at. get_more (completed_images view.begun) held id content.image (completed_there view.begun id chunk content none at);
-    held = λ id chunk draft at. absurd (held_nowhere view.begun id chunk draft none at);
+    completed = λ position chunk content at. get_more (completed_images view.begun) held position content.image (completed_there view.begun position chunk content none at);
+    held = λ position chunk draft at. absurd (held_nowhere view.begun position chunk draft none at);
   }
 
   module _ (image : Image) (held_is : held ≡ image ∷ []) (last : IsLast view.begun image) where
@@ -147,32 +146,32 @@ module _ (view : WriterView) (held : List Image) (small : (id : ℕ) (image : Im
         ∙ ap (λ (images : List Image). completed_images last.front ++ images) held_is
 
     -- and a chunk is one of the front, or the last one
-    place_of : (id : ℕ) (one : BegunChunk) → At view.begun id one → At last.front id one ⊎ ((id ≡ length last.front) × (Held last.chunk last.draft ≡ one))
-    place_of id one at = at_more last.front (Held last.chunk last.draft) one id (subst (λ (begun : List BegunChunk). At begun id one) last.begun_is at)
+    place_of : (position : ℕ) (one : BegunChunk) → At view.begun position one → At last.front position one ⊎ ((position ≡ length last.front) × (Held last.chunk last.draft ≡ one))
+    place_of position one at = at_more last.front (Held last.chunk last.draft) one position (subst (λ (begun : List BegunChunk). At begun position one) last.begun_is at)
 
-    completed_one : (id chunk : ℕ) (content : Content) → At last.front id (Completed chunk content) ⊎ ((id ≡ length last.front) × (Held last.chunk last.draft ≡ Completed chunk content))
-        → slice_get (all_images view held) id ≡ Some content.image
-    completed_one id chunk content (inl there) =
-        subst (λ (images : List Image). slice_get images id ≡ Some content.image) (sym images_are)
-        (get_more (completed_images last.front) (image ∷ []) id content.image (completed_there last.front id chunk content last.none there))
-    completed_one id chunk content (inr at_end) = let never = at_end.1 in absurd cc
+    completed_one : (position chunk : ℕ) (content : Content) → At last.front position (Completed chunk content) ⊎ ((position ≡ length last.front) × (Held last.chunk last.draft ≡ Completed chunk content))
+        → slice_get (all_images view held) position ≡ Some content.image
+    completed_one position chunk content (inl there) =
+        subst (λ (images : List Image). slice_get images position ≡ Some content.image) (sym images_are)
+        (get_more (completed_images last.front) (image ∷ []) position content.image (completed_there last.front position chunk content last.none there))
+    completed_one position chunk content (inr at_end) = let never = at_end.1 in absurd cc
 
-    held_one : (id chunk : ℕ) (draft : Draft) → At last.front id (Held chunk draft) ⊎ ((id ≡ length last.front) × (Held last.chunk last.draft ≡ Held chunk draft))
-        → IsHeldThere (all_images view held) id draft
-    held_one id chunk draft (inl there) = absurd (held_nowhere last.front id chunk draft last.none there)
-    held_one id chunk draft (inr at_end) =
+    held_one : (position chunk : ℕ) (draft : Draft) → At last.front position (Held chunk draft) ⊎ ((position ≡ length last.front) × (Held last.chunk last.draft ≡ Held chunk draft))
+        → IsHeldThere (all_images view held) position draft
+    held_one position chunk draft (inl there) = absurd (held_nowhere last.front position chunk draft last.none there)
+    held_one position chunk draft (inr at_end) =
         let equal = at_end.1 in
         let same : last.draft ≡ draft = cc in
-        let id_is : id ≡ length (completed_images last.front) = at_end.0 ∙ sym (completed_long last.front last.none) in
-        let there : slice_get (all_images view held) id ≡ Some image =
-        subst (λ (images : List Image). slice_get images id ≡ Some image) (sym images_are)
-        (subst (λ (n : ℕ). slice_get (completed_images last.front ++ image ∷ []) n ≡ Some image) (sym id_is) (get_seam (completed_images last.front) image)) in
-        (image, there, subst (λ (d : Draft). StandsInWords d image) same last.stands, small id image there)
+        let position_is : position ≡ length (completed_images last.front) = at_end.0 ∙ sym (completed_long last.front last.none) in
+        let there : slice_get (all_images view held) position ≡ Some image =
+        subst (λ (images : List Image). slice_get images position ≡ Some image) (sym images_are)
+        (subst (λ (n : ℕ). slice_get (completed_images last.front ++ image ∷ []) n ≡ Some image) (sym position_is) (get_seam (completed_images last.front) image)) in
+        (image, there, subst (λ (d : Draft). StandsInWords d image) same last.stands, small position image there)
 
     images_held : HasImages view (all_images view held)
     images_held = record {
-      completed = λ id chunk content at. completed_one id chunk content (place_of id (Completed chunk content) at);
-      held = λ id chunk draft at. held_one id chunk draft (place_of id (Held chunk draft) at);
+      completed = λ position chunk content at. completed_one position chunk content (place_of position (Completed chunk content) at);
+      held = λ position chunk draft at. held_one position chunk draft (place_of position (Held chunk draft) at);
     }
 
   images_of : Holding view.begun held → HasImages view (all_images view held)
@@ -200,8 +199,8 @@ begun_long begun held (inr some) =
 pub has_producer : (setup : Setup) (place : ℕ) (route : Route) → IsRoute setup place route → HasProducer setup (producer_of setup place)
 has_producer setup place route is =
     let inside = slice_get_within setup.writers place route.spec is.spec in
-    let there = slice_get-get_or setup.writers place (record { producer = 0; buffer = 0; policy = Drops }) inside in
-    let same = same_Some (get_or setup.writers place (record { producer = 0; buffer = 0; policy = Drops })) route.spec (sym there ∙ is.spec) in
+    let there = slice_get-get_or setup.writers place no_writer inside in
+    let same = same_Some (get_or setup.writers place no_writer) route.spec (sym there ∙ is.spec) in
     subst (λ (spec : WriterSpec). HasProducer setup spec.producer) (sym same) is.producer
 
 -- so the payload size of its chunks is that of the producer

@@ -69,7 +69,7 @@ wanted_few setup world buffer place (spec ∷ specs) few =
 
     step : (b : Bool) → wanted (begun_of world) (sequences_from setup buffer (suc place) specs) ≤ bytes_from setup world buffer (suc place) specs
         → wanted (begun_of world)
-        (cond b (fresh (place + 2) (record_size (size_of setup spec.producer)) ∷ sequences_from setup buffer (suc place) specs) (sequences_from setup buffer (suc place) specs))
+        (cond b (fresh (place + 2) (record_size (size_of setup spec.producer)) spec.from ∷ sequences_from setup buffer (suc place) specs) (sequences_from setup buffer (suc place) specs))
         ≤ cond b (most_chunks (size_of setup spec.producer) (emissions_of (writer world place).calls) * record_size (size_of setup spec.producer)) 0
         + bytes_from setup world buffer (suc place) specs
     step true rest = let one = here in omega (arith, one, rest)

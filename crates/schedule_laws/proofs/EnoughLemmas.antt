@@ -9,14 +9,14 @@ use Rattle.trace_model.specs.Enough.{most_chunks}
 use Rattle.trace_model.specs.Packets.{packets_of, emissions_of, lost_count}
 use Rattle.model_laws.proofs.ChunkCountLemmas.{every_page_is_counted}
 use Rattle.chunk_plain.specs.declared.setup.ChunkRange.{ChunkRange}
-use Rattle.chunk_plain.specs.Setup.{Setup, IsLaid, HasProducer, IsChunkOf, range_of, size_of, producer_of}
+use Rattle.chunk_plain.specs.Setup.{Setup, IsLaid, HasProducer, IsChunkOf, range_of, size_of, producer_of, no_writer}
 use Rattle.chunk_plain.specs.Views.{At, WriterView, newcomer}
 use Rattle.chunk_plain.specs.World.{World, writer}
 use Rattle.chunk_plain.specs.Owned.{IsOwned, Won}
 use Rattle.chunk_plain.proofs.AskOrder.{asked_won}
 use Rattle.world_model.specs.FirstBuffers.{payload_at}
 use Rattle.trace_writer.specs.Claims.{KeepsClaims}
-use Rattle.service_core.specs.Agreement.{spec_at, no_writer}
+use Rattle.service_core.specs.Agreement.{spec_at}
 use Rattle.replay_model.proofs.AccountLemmas.{pages_begun}
 use Rattle.replay_model.proofs.PigeonLemmas.{wins_on, range_wins, won_on, range_few, total, total_sum, total_less, total_least, many_wins, asked_at, own_ask, wins_are_begun}
 use Rattle.schedule_laws.specs.Resting.{AreBetweenCalls}

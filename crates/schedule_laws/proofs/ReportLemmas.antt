@@ -6,7 +6,7 @@ use Rattle.page_geometry.specs.Sizes.{record_size}
 use Rattle.trace_model.specs.Calls.{Call}
 use Rattle.trace_model.specs.History.{Event}
 use Rattle.trace_model.specs.Pages.{Page}
-use Rattle.trace_model.specs.Sequences.{Sequence, fresh, sequence_in, is_known}
+use Rattle.trace_model.specs.Sequences.{Sequence, IsFresh, sequence_in, is_known}
 use Rattle.delivery_laws.specs.DeliveryLaws.{IsAccountOf}
 use Rattle.delivery_laws.proofs.ReportLemmas.{accounts_are_histories}
 use Rattle.model_laws.proofs.ReportLemmas.{counts_are_balanced, counts_are_of_outcomes, reports_count_deliveries}
@@ -26,7 +26,7 @@ use Rattle.schedule_laws.proofs.BetweenLemmas.{has_written}
 -- the pages of a writer's cut come in order in the history
 pub account_in : (setup : Setup) (world : World) (place : ℕ) → IsOwned world → (wrote : HasWritten setup place (writer world place)) → IsNotedInOrder world.service place
     → (sequences : List Sequence) (record_size : ℕ) → is_known sequences (sequence_of place) ≡ true
-    → sequence_in sequences (sequence_of place) ≡ fresh (sequence_of place) record_size
+    → IsFresh (sequence_of place) record_size (sequence_in sequences (sequence_of place))
     → IsAccountOf (payload_at setup place) (writer world place).calls wrote.cut.cut.pages sequences (sequence_of place) record_size (history_of world.service)
 account_in setup world place owned wrote noted sequences record_size known start =
     let counts = owned.counts place in

@@ -47,7 +47,8 @@ pub record HasChunksEnough (setup : Setup) (world : World) : Type 0 where
 
 -- No writer has lost a packet then.
 abbrev pub EnoughChunksLoseNothing : Type 0
-EnoughChunksLoseNothing = (setup : Setup) (moves : List Move) (world : World) → IsLaid setup → IsSchedule (first_world setup) moves world
+EnoughChunksLoseNothing = (setup : Setup) (moves : List Move) (world : World) → IsLaid setup
+    → IsSchedule setup (first_world setup) moves world
     → AreBetweenCalls setup world → HasChunksEnough setup world → (place : ℕ) → place < length setup.writers
     → lost_count (packets_of (writer world place).calls) ≡ 0
 
@@ -73,7 +74,7 @@ pub record IsReadOut (setup : Setup) (buffers : List BufferSpec) (world : World)
 -- Then no packet of the writer is missing.
 abbrev pub EnoughMissesNothing : Type 0
 EnoughMissesNothing = (setup : Setup) (buffers : List BufferSpec) (moves : List Move) (world : World) → IsLaid setup
-    → IsSchedule (first_world setup) moves world
+    → IsSchedule setup (first_world setup) moves world
     → AreBetweenCalls setup world → AreNotedInOrder setup world.service → HasChunksEnough setup world
     → (place : ℕ) (spec : WriterSpec) → slice_get setup.writers place ≡ Some spec → IsReadOut setup buffers world place spec
     → length (records_of (sequence_of place) (records_after (first_buffers setup 1 buffers) (history_of world.service)))

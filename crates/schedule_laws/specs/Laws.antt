@@ -19,14 +19,14 @@ use Rattle.schedule_laws.specs.Resting.{IsBetweenCalls, AreBetweenCalls, IsNoted
 
 -- What a schedule leads to from a table as it is made is an account, where each writer is between two calls and the service noted in order.
 abbrev pub SchedulesAreAccounts : Type 0
-SchedulesAreAccounts = (setup : Setup) (moves : List Move) (world : World) → IsLaid setup → IsSchedule (first_world setup) moves world
+SchedulesAreAccounts = (setup : Setup) (moves : List Move) (world : World) → IsLaid setup → IsSchedule setup (first_world setup) moves world
     → AreBetweenCalls setup world → AreNotedInOrder setup world.service → IsAccount setup world
 
 -- So the records that the service's history writes are faithful to the packets that the writers emitted: each is of a writer's sequence,
 -- and those of each sequence are emitted packets, exact, whole, once, in order, and marked exactly where one is missing.
 abbrev pub EveryScheduleIsFaithful : Type 0
 EveryScheduleIsFaithful = (setup : Setup) (buffers : List BufferSpec) (moves : List Move) (world : World) → IsLaid setup
-    → IsSchedule (first_world setup) moves world → AreBetweenCalls setup world → AreNotedInOrder setup world.service
+    → IsSchedule setup (first_world setup) moves world → AreBetweenCalls setup world → AreNotedInOrder setup world.service
     → IsFaithful (map (λ (view : WriterView). emissions_of view.calls) world.writers)
     (records_after (first_buffers setup 1 buffers) (history_of world.service))
 
@@ -34,7 +34,7 @@ EveryScheduleIsFaithful = (setup : Setup) (buffers : List BufferSpec) (moves : L
 -- is in order.
 abbrev pub EverySequenceIsTold : Type 0
 EverySequenceIsTold = (setup : Setup) (buffers : List BufferSpec) (moves : List Move) (world : World) → IsLaid setup
-    → IsSchedule (first_world setup) moves world → (place : ℕ) → place < length setup.writers
+    → IsSchedule setup (first_world setup) moves world → (place : ℕ) → place < length setup.writers
     → IsBetweenCalls setup place (writer world place) → IsNotedInOrder world.service place
     → Tells (emissions_of (writer world place).calls) (sequence_of place)
     (records_of (sequence_of place) (records_after (first_buffers setup 1 buffers) (history_of world.service)))
@@ -50,7 +50,7 @@ ServingIsInOrder S = (setup : Setup) (view : ServiceView) (core : ServiceCore S)
 abbrev pub EveryServedScheduleIsFaithful : Type 0 → Type 0
 EveryServedScheduleIsFaithful S = (setup : Setup) (buffers : List BufferSpec) (moves : List Move) (world : World) (core : ServiceCore S)
     → IsLaid setup
-    → IsSchedule (first_world setup) moves world → AreBetweenCalls setup world → ServiceAgrees setup world.service core
+    → IsSchedule setup (first_world setup) moves world → AreBetweenCalls setup world → ServiceAgrees setup world.service core
     → ((place : ℕ) → place < length setup.writers → CommitsNone (sequence_of place) moves)
     → IsFaithful (map (λ (view : WriterView). emissions_of view.calls) world.writers)
     (records_after (first_buffers setup 1 buffers) (history_of world.service))

@@ -7,7 +7,7 @@ use Rattle.trace_model.specs.Causes.{fixed_after}
 use Rattle.trace_model.specs.Counts.{last_count}
 use Rattle.trace_model.specs.History.{state_after, delivered_to}
 use Rattle.trace_model.specs.Packets.{begun_count}
-use Rattle.trace_model.specs.Sequences.{Sequence, fresh, sequence_in, is_known}
+use Rattle.trace_model.specs.Sequences.{Sequence, IsFresh, sequence_in, is_known}
 use Rattle.delivery_laws.specs.DeliveryLaws.{IsAccountOf}
 use Rattle.chunk_plain.specs.Setup.{Setup, IsLaid, sequence_of}
 use Rattle.chunk_plain.specs.World.{World, writer}
@@ -24,12 +24,13 @@ use Rattle.schedule_laws.specs.Resting.{IsBetweenCalls, IsNotedInOrder}
 pub record HasAccount (setup : Setup) (world : World) (place : ℕ) : Type 0 where
   pub wrote : HasWritten setup place (writer world place)
   pub account : (sequences : List Sequence) (record_size : ℕ) → is_known sequences (sequence_of place) ≡ true
-      → sequence_in sequences (sequence_of place) ≡ fresh (sequence_of place) record_size
+      → IsFresh (sequence_of place) record_size (sequence_in sequences (sequence_of place))
       → IsAccountOf (payload_at setup place) (writer world place).calls wrote.cut.cut.pages sequences (sequence_of place) record_size (history_of world.service)
 
 -- Of each sequence whose writer is between two calls, and on which was noted in order, whatever the other writers are in the middle of.
 abbrev pub SequencesHaveAccounts : Type 0
-SequencesHaveAccounts = (setup : Setup) (moves : List Move) (world : World) → IsLaid setup → IsSchedule (first_world setup) moves world
+SequencesHaveAccounts = (setup : Setup) (moves : List Move) (world : World) → IsLaid setup
+    → IsSchedule setup (first_world setup) moves world
     → (place : ℕ) → place < length setup.writers → IsBetweenCalls setup place (writer world place) → IsNotedInOrder world.service place
     → HasAccount setup world place
 
@@ -57,7 +58,7 @@ pub record CountsOnce (setup : Setup) (world : World) (place : ℕ) (spec : Writ
 
 -- Of each such sequence, where no more packets were begun than a count can tell.
 abbrev pub EveryPacketIsCounted : Type 0
-EveryPacketIsCounted = (setup : Setup) (moves : List Move) (world : World) → IsLaid setup → IsSchedule (first_world setup) moves world
+EveryPacketIsCounted = (setup : Setup) (moves : List Move) (world : World) → IsLaid setup → IsSchedule setup (first_world setup) moves world
     → (place : ℕ) (spec : WriterSpec) (buffer : BufferSpec) → slice_get setup.writers place ≡ Some spec
     → IsBetweenCalls setup place (writer world place) → IsNotedInOrder world.service place
     → begun_count (writer world place).calls ≤ last_count → CountsOnce setup world place spec buffer

@@ -37,7 +37,7 @@ loop-place-preserved c =
     let producers = c.args.producers.now in
     let writers = c.args.writers.now in
     let setup = setup_of producers writers in
-    let one : SequenceSpec = record { sequence = place + 2; payload = c.payload_size.result } in
+    let one : SequenceSpec = record { sequence = place + 2; payload = c.payload_size.result; from = (spec_at writers place).from } in
     let below = c.loop-place-test.true in
     let named = c.requires.routed.1.producers place below in
     let least = named.least in
@@ -54,7 +54,7 @@ loop-place-preserved c =
     let items = c.in_ok-push.ensures.items in
     record {
       sequences = ap (λ (xs : List SequenceSpec). map sequence_of xs) items
-          ∙ made_more setup c.args.buffer writers place c.loop-place.specs.items one below c.if-writers-place.false refl payload i.sequences;
+          ∙ made_more setup c.args.buffer writers place c.loop-place.specs.items one below c.if-writers-place.false refl payload refl i.sequences;
       distinct = subst AreDistinct (sym items) (distinct_append c.loop-place.specs.items one i.below i.distinct);
       small = subst (AllSmall c.args.size) (sym items) (small_append c.args.size c.loop-place.specs.items one fits i.small);
       below = subst (AllBelow (place + 1 + 2)) (sym items)
