@@ -24,6 +24,7 @@ use Rattle.trace_writer.specs.Claims.{AreOwnChunks}
 use Rattle.trace_writer.specs.Helping.{rounds_for}
 use Rattle.service_core.specs.Agreement.{spec_at}
 use Rattle.schedule_laws.proofs.BetweenLemmas.{has_producer}
+use Rattle.run_model.proofs.LineLemmas.{lines_take_at_most}
 use Rattle.run_model.specs.Collected.{CollectedByLines, may_be_collected}
 use Rattle.run_model.specs.Laws.{BeginsNoneBehindLosses, NothingIsBegunBehindLosses}
 use Rattle.run_model.specs.Settled.{HasDoneAll}
@@ -191,11 +192,11 @@ module _ (scenario : Parts) (setup : Setup) (world : World) (closed : Bool) (don
 
 pub nothing_is_begun_behind_losses : NothingIsBegunBehindLosses
 nothing_is_begun_behind_losses = record {
-  run = λ scenario setup world run. begins_none scenario setup world _ run.before.done run.before.taken_by.collected;
+  run = λ scenario setup world run. begins_none scenario setup world _ run.before.done (lines_take_at_most.run _ setup world run);
   stopped = stopped;
 }
   where
     stopped : (scenario : Parts) (setup : Setup) (world : World) (next : Delivered) → StopsBefore scenario setup world next
         → BeginsNoneBehindLosses setup scenario.lines world
-    stopped scenario setup world next (inl lines) = begins_none scenario setup world _ lines.done lines.taken_by.collected
-    stopped scenario setup world next (inr ends) = begins_none scenario setup world _ ends.before.done ends.before.taken_by.collected
+    stopped scenario setup world next (inl lines) = begins_none scenario setup world _ lines.done (lines_take_at_most.in_lines scenario setup world next lines)
+    stopped scenario setup world next (inr ends) = begins_none scenario setup world _ ends.before.done (lines_take_at_most.in_end scenario setup world next ends)

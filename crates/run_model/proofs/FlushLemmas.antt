@@ -24,7 +24,7 @@ use Rattle.delivery_laws.proofs.CompleteLemmas.{full_at}
 use Rattle.delivery_laws.proofs.FlushLemmas as delivery
 use Rattle.delivery_laws.proofs.WrittenPackets.{are_full}
 use Rattle.chunk_plain.specs.Histories.{completed_images, completed_patches, history_of}
-use Rattle.chunk_plain.specs.Setup.{Setup, sequence_of, size_of}
+use Rattle.chunk_plain.specs.Setup.{Setup, sequence_of, size_of, no_writer}
 use Rattle.chunk_plain.specs.Views.{BegunChunk, Held, Completed, Reply}
 use Rattle.chunk_plain.specs.World.{World, writer}
 use Rattle.world_model.specs.FirstBuffers.{BufferSpec, payload_at, sequences_from}
@@ -35,7 +35,7 @@ use Rattle.trace_writer.proofs.holding.Answering.{all_completed}
 use Rattle.scenario_text.specs.declared.scenario.BufferLine.{BufferLine}
 use Rattle.scenario_text.specs.Limits.{IsSetUp, IsWriter}
 use Rattle.scenario_text.specs.Scenario.{Parts}
-use Rattle.service_core.specs.Agreement.{spec_at, no_writer}
+use Rattle.service_core.specs.Agreement.{spec_at}
 use Rattle.service_core.specs.Routing.{buffer_at}
 use Rattle.replay_model.specs.Played.{buffer_specs, buffers_of, first_buffer}
 use Rattle.replay_model.specs.Written.{HasWritten}

@@ -3,6 +3,8 @@ pub mod OrderLemmas
 pub mod AskedLemmas
 pub mod AnsweredLemmas
 pub mod CollectedLemmas
+pub mod TakenLemmas
+pub mod LineLemmas
 pub mod ChunkLemmas
 pub mod CompleteLemmas
 pub mod CountLemmas

@@ -16,10 +16,10 @@ use Rattle.run_model.specs.Settled.{HasDoneAll}
 loses_where_had : (scenario : Parts) (setup : Setup) (world : World) (closed : Bool) (done : HasDoneAll scenario setup world closed)
     → LosesWhereHad setup done.stood world
 loses_where_had scenario setup world closed done =
-    ∥∥₁_elim done.leads squash₁ (λ (goes : (other : World) × Leads done.stood other × (other.writers ≡ world.writers) × (other.service ≡ world.service)).
+    ∥∥₁_elim done.leads squash₁ (λ (goes : (other : World) × Leads setup done.stood other × (other.writers ≡ world.writers) × (other.service ≡ world.service)).
     ∥∥₁_map₂ done.reached goes.1
-    (λ (first : (moves : List Move) × IsSchedule (first_world setup) moves done.stood) (then : (moves : List Move) × IsSchedule done.stood moves goes.0).
-    let schedule = schedules_join.both (first_world setup) done.stood goes.0 first.0 then.0 first.1 then.1 in (
+    (λ (first : (moves : List Move) × IsSchedule setup (first_world setup) moves done.stood) (then : (moves : List Move) × IsSchedule setup done.stood moves goes.0).
+    let schedule = schedules_join.both setup (first_world setup) done.stood goes.0 first.0 then.0 first.1 then.1 in (
       first.0,
       then.0,
       goes.0,

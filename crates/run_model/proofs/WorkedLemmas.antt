@@ -30,6 +30,7 @@ use Rattle.scenario_text.specs.Scenario.{Parts}
 use Rattle.replay_model.specs.Flushes.{requests_in}
 use Rattle.replay_model.specs.Played.{IsSpecOf}
 use Rattle.replay_model.proofs.AccountLemmas.{pages_begun}
+use Rattle.run_model.proofs.LineLemmas.{lines_take_at_most}
 use Rattle.run_model.specs.Collected.{CollectedByLines, has_asker, may_be_collected, taken_by_lines, times_in}
 use Rattle.run_model.specs.Noted.{done_calls}
 use Rattle.run_model.specs.Settled.{HasDoneAll, IsRun, last_flushes}
@@ -210,8 +211,8 @@ flushed_beside others at first second setup world run fits alone = by_count (cas
         let nobody : may_be_collected setup lines 1 ≡ false = ap (λ (s : Setup). may_be_collected s lines 1) laid_is ∙ alone done.setup_is.specs in
         let flags = flags_are (writer world 0).calls (calls_asked 1 lines ++ last_flushes) (asked_all (over_one_chunk writers lines) setup world run refl 0 inside)
         ∙ ap (λ (f : Flags). f.0) (flushed_flags at first second) in
-        let two = flushed_begun writers lines fits setup world _ done run.before.taken_by.collected 0 inside (true ∷ []) (refl, tt) flags none in
-        let same = one_entry writers lines fits setup world _ done run.before.taken_by.collected 0 0 0 1 inside inside of_one of_one nobody
+        let two = flushed_begun writers lines fits setup world _ done (lines_take_at_most.run _ setup world run) 0 inside (true ∷ []) (refl, tt) flags none in
+        let same = one_entry writers lines fits setup world _ done (lines_take_at_most.run _ setup world run) 0 0 0 1 inside inside of_one of_one nobody
         (omega (arith, two)) (omega (arith, two)) in
         absurd (let clash = same.1 in omega (arith, clash))
 
@@ -262,7 +263,7 @@ first_kept first second setup world run = by_packets (packets_of (writer world 0
     begins = begins_first setup world 0 _ (run.before.done.writers 0 inside).vain (asked_all (flushed_between first second) setup world run refl 0 inside)
 
     kept : begins.kept ≡ true
-    kept = begun_first (flushed_between first second) setup world _ run.before.done run.before.taken_by.collected (laid (dropping ∷ []) (flushed_between first second).lines fits setup world _ run.before.done run.before.taken_by.collected)
+    kept = begun_first (flushed_between first second) setup world _ run.before.done (lines_take_at_most.run _ setup world run) (laid (dropping ∷ []) (flushed_between first second).lines fits setup world _ run.before.done (lines_take_at_most.run _ setup world run))
         (ap (λ (s : Setup). length s.writers) run.before.done.setup_is.laid) 0 own (ap (may_be_collected setup (flushed_between first second).lines) of_one ∙ nobody) begins
 
     by_packets : (packets : List Packet) → packets_of (writer world 0).calls ≡ packets
@@ -288,11 +289,11 @@ first_kept first second setup world run = by_packets (packets_of (writer world 0
         by_kept : (b : Bool) → p.kept ≡ b → p.kept ≡ false
         by_kept false new = new
         by_kept true new =
-            let own_cut = wrote (flushed_between first second) setup world _ run.before.done (laid (dropping ∷ []) (flushed_between first second).lines fits setup world _ run.before.done run.before.taken_by.collected) 0 inside in
+            let own_cut = wrote (flushed_between first second) setup world _ run.before.done (laid (dropping ∷ []) (flushed_between first second).lines fits setup world _ run.before.done (lines_take_at_most.run _ setup world run)) 0 inside in
             let pages = pages_begun setup 0 (writer world 0) own_cut in
             let two = fresh_pages (payload_at setup 0) (p ∷ q ∷ []) own_cut.cut.cut.pages (new, follows, old)
             (subst (λ (ps : List Packet). CutsInto (payload_at setup 0) ps own_cut.cut.cut.pages) is own_cut.cut.cut.cut) in
-            let same = one_entry (dropping ∷ []) (flushed_between first second).lines fits setup world _ run.before.done run.before.taken_by.collected 0 0 0 1 inside inside of_one of_one nobody
+            let same = one_entry (dropping ∷ []) (flushed_between first second).lines fits setup world _ run.before.done (lines_take_at_most.run _ setup world run) 0 0 0 1 inside inside of_one of_one nobody
             (omega (arith, two, pages)) (omega (arith, two, pages)) in
             absurd (let clash = same.1 in omega (arith, clash))
 
@@ -331,9 +332,9 @@ each first second setup world run = by_count (cases_eq (lost_count (packets_of (
         ∙ ap (λ (f : Flags). f.0) (each_flags 1 first second (inl refl)) in
         let other_flags = flags_are (writer world 1).calls (calls_asked 2 lines ++ last_flushes) (asked_all (one_of_each first second) setup world run refl 1 within)
         ∙ ap (λ (f : Flags). f.0) (each_flags 2 first second (inr refl)) in
-        let one = one_begun writers lines fits setup world _ done run.before.taken_by.collected 0 inside flags (omega (arith, none)) in
-        let other = one_begun writers lines fits setup world _ done run.before.taken_by.collected 1 within other_flags (omega (arith, none)) in
-        let same = one_entry writers lines fits setup world _ done run.before.taken_by.collected 0 1 0 0 inside within of_one to_one nobody one other in
+        let one = one_begun writers lines fits setup world _ done (lines_take_at_most.run _ setup world run) 0 inside flags (omega (arith, none)) in
+        let other = one_begun writers lines fits setup world _ done (lines_take_at_most.run _ setup world run) 1 within other_flags (omega (arith, none)) in
+        let same = one_entry writers lines fits setup world _ done (lines_take_at_most.run _ setup world run) 0 1 0 0 inside within of_one to_one nobody one other in
         absurd (let clash = same.0 in omega (arith, clash))
 
 pub one_chunk_holds_one_packet : OneChunkHoldsOnePacket
@@ -362,7 +363,7 @@ one_collect_frees_one_chunk first second third setup world run = by_count (cases
     by_count (inr more) = omega (arith, more)
     by_count (inl none) =
         let done = run.before.done in let lines = (collected_once first second third).lines in let writers = dropping ∷ [] in
-        let collected = run.before.taken_by.collected in
+        let collected = (lines_take_at_most.run _ setup world run) in
         let laid_is = done.setup_is.laid in
         let inside : 0 < length setup.writers = let many = ap (λ (s : Setup). length s.writers) laid_is in omega (arith, many) in
         let of_one : producer_of setup 0 ≡ 1 = ap (λ (s : Setup). producer_of s 0) laid_is in

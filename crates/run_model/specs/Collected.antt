@@ -1,4 +1,4 @@
--- Of which writers a run may take chunks while its threads run, and how the rest is taken behind them.
+-- Of which writers a run may take chunks while its threads run, and how many.
 use Rattle.std.specs.Prelude.{◌≡◌, ℕ, suc, ◌+◌, ◌*◌, ◌<◌, ◌≤◌, ◌==◌, ◌&&◌, ◌||◌, Bool, true, false, List, [], ◌∷◌, length, if◌then◌else◌}
 use Rattle.std.specs.List.{flat_map, list_any}
 use Rattle.trace_base.specs.declared.policy.WriterPolicy.{WriterPolicy}
@@ -11,7 +11,6 @@ use Rattle.scenario_text.specs.declared.scenario.NumberedLine.{NumberedLine}
 use Rattle.scenario_text.specs.Accepted.{own_kinds}
 use Rattle.service_core.specs.Agreement.{spec_at}
 use Rattle.service_core.specs.Taking.{places_of}
-use Rattle.thread_service.specs.Settling.{TakesAllOut}
 use Rattle.run_model.specs.Scraped.{is_scraped_by}
 
 -- whether a line collects the producer
@@ -79,9 +78,3 @@ TakenAtMost setup lines producers view =
 -- many as there are: so none where no line does.
 abbrev pub CollectedByLines : Setup → List NumberedLine → ServiceView → Type 0
 CollectedByLines setup lines view = TakenAtMost setup lines (taken_by_lines lines) view
-
--- How all came to be taken that was, where this is what the service knew once the threads were done. While they ran, no more chunks of a writer were
--- taken than lines allow, where no writer of its producer asks for help. What was left was taken then, producer by producer in rising number.
-pub record IsTakenBy (setup : Setup) (lines : List NumberedLine) (ran settled : ServiceView) : Type 0 where
-  pub collected : CollectedByLines setup lines ran
-  pub settles : TakesAllOut setup (length setup.ranges) ran settled

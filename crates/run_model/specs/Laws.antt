@@ -16,7 +16,7 @@ use Rattle.scenario_text.specs.Limits.{IsSetUp}
 use Rattle.scenario_text.specs.Emissions.{emitted_in}
 use Rattle.replay_model.specs.Enough.{HasEnough, IsPlayable}
 use Rattle.replay_model.specs.Played.{records_in, packet_counts, AreBalanced, CountsPackets}
-use Rattle.run_model.specs.Collected.{may_be_collected}
+use Rattle.run_model.specs.Collected.{CollectedByLines, may_be_collected}
 use Rattle.run_model.specs.Settled.{IsRun}
 use Rattle.run_model.specs.Stopped.{StopsBefore, StopsInLines, StopsInEnd}
 use Rattle.run_model.specs.Vain.{HasVainRounds}
@@ -50,14 +50,24 @@ abbrev pub EveryEnoughRunIsComplete : Type 0
 EveryEnoughRunIsComplete = (scenario : Parts) (setup : Setup) (world : World) → IsRun scenario setup world
     → IsPlayable scenario → HasEnough scenario → IsComplete (emitted_in scenario) (records_in scenario setup world)
 
+-- While the threads run, no more chunks of a writer are taken than lines allow, where no writer of its producer asks for help: so it is in each run, whole
+-- or up to a write that failed, in the reads of its lines or in those of the end.
+pub record LinesTakeAtMost : Type 0 where
+  pub run : (scenario : Parts) (setup : Setup) (world : World) (is : IsRun scenario setup world)
+      → CollectedByLines setup scenario.lines is.before.done.stood.service
+  pub in_lines : (scenario : Parts) (setup : Setup) (world : World) (next : Delivered) (stops : StopsInLines scenario setup world next)
+      → CollectedByLines setup scenario.lines stops.done.stood.service
+  pub in_end : (scenario : Parts) (setup : Setup) (world : World) (next : Delivered) (stops : StopsInEnd scenario setup world next)
+      → CollectedByLines setup scenario.lines stops.before.done.stood.service
+
 -- What writers completed and the service hadn't taken by the world that is marked once the threads are done stands in chunks of their own: none of
 -- them is free again by then.
 abbrev pub LeftAreApart : Setup → (stood world : World) → Type 0
 LeftAreApart setup stood world =
-    (place other id more chunk : ℕ) (content known : Content) → place < length setup.writers → other < length setup.writers
-    → (taken_of stood.service place).count ≤ id → (taken_of stood.service other).count ≤ more
-    → At (writer world place).begun id (Completed chunk content) → At (writer world other).begun more (Completed chunk known)
-    → (place ≡ other) × (id ≡ more)
+    (place other position more chunk : ℕ) (content known : Content) → place < length setup.writers → other < length setup.writers
+    → (taken_of stood.service place).count ≤ position → (taken_of stood.service other).count ≤ more
+    → At (writer world place).begun position (Completed chunk content) → At (writer world other).begun more (Completed chunk known)
+    → (place ≡ other) × (position ≡ more)
 
 -- So it is in each run, whole or up to a write that failed, in the reads of its lines or in those of the end.
 pub record LeftChunksAreApart : Type 0 where
@@ -70,10 +80,10 @@ pub record LeftChunksAreApart : Type 0 where
 -- Each chunk of a producer that no line collects or scrapes, and none of whose writers asks for help, is begun once at most, by one of its writers.
 abbrev pub UsesOnce : Setup → List NumberedLine → World → Type 0
 UsesOnce setup lines world =
-    (place other id more chunk : ℕ) (content known : Content) → place < length setup.writers → other < length setup.writers
+    (place other position more chunk : ℕ) (content known : Content) → place < length setup.writers → other < length setup.writers
     → may_be_collected setup lines (producer_of setup place) ≡ false → may_be_collected setup lines (producer_of setup other) ≡ false
-    → At (writer world place).begun id (Completed chunk content) → At (writer world other).begun more (Completed chunk known)
-    → (place ≡ other) × (id ≡ more)
+    → At (writer world place).begun position (Completed chunk content) → At (writer world other).begun more (Completed chunk known)
+    → (place ≡ other) × (position ≡ more)
 
 -- So it is in each run, whole or up to a write that failed: no more chunks are out at once than there are.
 pub record UncollectedChunksAreUsedOnce : Type 0 where
@@ -99,10 +109,10 @@ pub record NothingIsBegunBehindLosses : Type 0 where
 -- moves, one behind the other, each claim in vain is one, made where somebody had the chunk.
 abbrev pub LosesWhereHad : Setup → (stood world : World) → Type 0
 LosesWhereHad setup stood world =
-    ∥ ((moves more : List Move) × (other : World) × IsSchedule (first_world setup) moves stood × IsSchedule stood more other
+    ∥ ((moves more : List Move) × (other : World) × IsSchedule setup (first_world setup) moves stood × IsSchedule setup stood more other
     × (other.writers ≡ world.writers) × (other.service ≡ world.service)
     × ((place number : ℕ) (ask : Ask) → At (writer world place).asked number ask → ask.won ≡ false
-    → FindsHad (moves ++ more) (first_world setup) other place number ask)) ∥₁
+    → FindsHad setup (moves ++ more) (first_world setup) other place number ask)) ∥₁
 
 -- So it is in each run, whole or up to a write that failed, in the reads of its lines or in those of the end.
 pub record LostClaimsFindHad : Type 0 where

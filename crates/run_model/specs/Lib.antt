@@ -4,6 +4,7 @@ pub mod Reads
 pub mod Vain
 pub mod Scraped
 pub mod Collected
+pub mod Lines
 pub mod Settled
 pub mod Stopped
 pub mod Runs

@@ -30,8 +30,9 @@ use Rattle.service_core.specs.Taking.{noted_more}
 use Rattle.replay_model.specs.Does.{is_shut}
 use Rattle.replay_model.specs.Played.{IsSetupOf, buffers_of}
 use Rattle.schedule_laws.specs.Resting.{IsBetweenCalls}
+use Rattle.thread_service.specs.Settling.{TakesAllOut}
 use Rattle.run_model.specs.Answered.{HasAnsweredAll, answered_out}
-use Rattle.run_model.specs.Collected.{IsTakenBy}
+use Rattle.run_model.specs.Lines.{PlaysAll}
 use Rattle.run_model.specs.Noted.{done_calls}
 use Rattle.run_model.specs.Reads.{GoesByReads}
 use Rattle.run_model.specs.Scraped.{ScrapedByLines}
@@ -72,10 +73,10 @@ pub record HasDoneAll (scenario : Parts) (setup : Setup) (world : World) (closed
   -- A world that is marked once the threads are done: a schedule of steps leads to it from a table as it is made, and one goes on from it to
   -- these views. Each chunk that a writer has completed it had completed by then.
   pub stood : World
-  pub reached : Leads (first_world setup) stood
-  pub leads : ∥ ((other : World) × Leads stood other × (other.writers ≡ world.writers) × (other.service ≡ world.service)) ∥₁
-  pub completed : (place : ℕ) → place < length setup.writers → (id chunk : ℕ) (content : Content)
-      → At (writer world place).begun id (Completed chunk content) → At (writer stood place).begun id (Completed chunk content)
+  pub reached : Leads setup (first_world setup) stood
+  pub leads : ∥ ((other : World) × Leads setup stood other × (other.writers ≡ world.writers) × (other.service ≡ world.service)) ∥₁
+  pub completed : (place : ℕ) → place < length setup.writers → (position chunk : ℕ) (content : Content)
+      → At (writer world place).begun position (Completed chunk content) → At (writer stood place).begun position (Completed chunk content)
   pub writers : (place : ℕ) → place < length setup.writers → HasDoneLines setup scenario.lines last_flushes place (writer world place)
   pub taken : (place : ℕ) → place < length setup.writers → (taken_of world.service place).count ≡ length (writer world place).begun
   pub order : (place : ℕ) → place < length setup.writers
@@ -100,14 +101,17 @@ ReadsTo setup first (suc number) reads old new =
     × (let here = reads_in setup (buffers_after first (history_of between)) (suc number) last_count in
     (reads ≡ earlier ++ here) × (new ≡ noted_more between (flat_map noted_read here)))
 
--- All was done and taken, and then each producer closed. Of a producer none of whose writers asks for help no more chunks of a writer were taken
--- before the threads were done than lines allow that collect or scrape it; what was left then was taken producer by producer in rising number. The reads until then are those of the read lines in their order, each by what its buffer held when the line was played.
+-- All was done and taken, and then each producer closed. While the threads ran, the service played its own lines in their order, and nothing came between
+-- them but chunks taken of a producer one of whose writers may ask for help, and answers that were read; what was left then was taken producer by producer
+-- in rising number. The reads until then are those of
+-- the read lines in their order, each by what its buffer held when the line was played.
 pub record HasClosedAll (scenario : Parts) (setup : Setup) (world : World) : Type 0 where
   pub done : HasDoneAll scenario setup world true
   -- the service once all was taken, and once all sequences were closed
   pub settled : ServiceView
   pub closed : ServiceView
-  pub taken_by : IsTakenBy setup scenario.lines done.stood.service settled
+  pub played : PlaysAll setup (buffers_of scenario setup) scenario.lines (first_world setup).service done.stood.service
+  pub settles : TakesAllOut setup (length setup.ranges) done.stood.service settled
   pub whole : (place : ℕ) → place < length setup.writers → (taken_of settled place).count ≡ length (writer world place).begun
   pub opened : (place : ℕ) → place < length setup.writers → is_shut (sequence_of place) settled.events ≡ false
   pub closes : ClosesTo setup (length setup.ranges) settled closed
@@ -119,10 +123,11 @@ pub record HasClosedAll (scenario : Parts) (setup : Setup) (world : World) : Typ
 -- The scenario was run, and all is settled. Its writers and its service are those of one owned world, to which a schedule of their steps
 -- leads from a table as it is made, by way of a world in which each writer had completed all that it completes. Each writer has done its
 -- lines, and all that it completed was taken. What was noted on each sequence is in order, and finished fragments of a chunk before it was
--- complete only where a line scrapes the writer's producer. Of a producer none of whose writers asks for help no more chunks of a writer were taken
--- before the threads were done than lines allow that collect or scrape it; what was left then was taken producer by producer in rising number. The reads are those of the read lines in their order, each by what its buffer held when the line was played, and then those of the end,
--- where each producer is closed and then each buffer read without limit. As many flush requests were made as lines ask for, and the service has read of
--- each writer an answer to the last one.
+-- complete only where a line scrapes the writer's producer. While the threads ran, the service played its own lines in their order, and nothing came
+-- between them but chunks taken of a producer one of whose writers asks for help, and answers of writers; what was left then was taken producer by
+-- producer in rising number. The reads are those of the read lines in their order, each by what its buffer held when the line was played, and then those
+-- of the end, where each producer is closed and then each buffer read without limit. As many flush requests were made as lines ask for, and the service
+-- has read of each writer an answer to the last one.
 pub record IsRun (scenario : Parts) (setup : Setup) (world : World) : Type 0 where
   pub before : HasClosedAll scenario setup world
   pub answered : HasAnsweredAll scenario setup world.service

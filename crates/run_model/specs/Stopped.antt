@@ -9,22 +9,25 @@ use Rattle.chunk_plain.specs.Setup.{Setup}
 use Rattle.chunk_plain.specs.Views.{ServiceView}
 use Rattle.chunk_plain.specs.World.{World}
 use Rattle.chunk_plain.specs.Histories.{history_of}
+use Rattle.chunk_plain.specs.Plain.{first_world}
 use Rattle.scenario_text.specs.declared.scenario.LineKind.TheVariants as line
 use Rattle.scenario_text.specs.Scenario.{Parts}
 use Rattle.service_core.specs.Reading.{noted_read}
 use Rattle.service_core.specs.Taking.{noted_more}
 use Rattle.replay_model.specs.Played.{buffers_of}
 use Rattle.thread_service.specs.Reading.{GoesUnread}
-use Rattle.run_model.specs.Collected.{IsTakenBy}
+use Rattle.thread_service.specs.Settling.{TakesAllOut}
+use Rattle.run_model.specs.Lines.{PlaysSome}
 use Rattle.run_model.specs.Reads.{GoesUpTo, ReadsUpTo}
 use Rattle.run_model.specs.Settled.{HasDoneAll, HasClosedAll, ReadsTo}
 
--- A write failed in the reads of the lines: they went as far as this record, and nothing was read behind that. No sequence is closed. Of
--- a producer none of whose writers asks for help no more chunks of a writer were taken before the threads were done than all lines allow that collect or
--- scrape it; what was left then was taken producer by producer in rising number.
+-- A write failed in the reads of the lines: they went as far as this record, and nothing was read behind that. No sequence is closed. While the threads
+-- ran, the service played its own lines up to that one, in their order, and none behind it; nothing came between them but chunks taken of a producer one
+-- of whose writers may ask for help, and answers that were read. What was left then was taken producer by producer in rising number.
 pub record StopsInLines (scenario : Parts) (setup : Setup) (world : World) (next : Delivered) : Type 0 where
   pub done : HasDoneAll scenario setup world false
-  pub taken_by : IsTakenBy setup scenario.lines done.stood.service world.service
+  pub played : PlaysSome setup (buffers_of scenario setup) scenario.lines (first_world setup).service done.stood.service
+  pub settles : TakesAllOut setup (length setup.ranges) done.stood.service world.service
   pub stopped : List model.Event
   pub reads : GoesUpTo setup (buffers_of scenario setup) scenario.lines [] stopped next
   pub goes : GoesUnread stopped (history_of world.service)

@@ -24,11 +24,11 @@ over_one_chunk writers lines = record {
 
 -- a writer of that producer that drops
 abbrev pub dropping : WriterSpec
-dropping = record { producer = 1; buffer = 1; policy = Drops }
+dropping = record { producer = 1; buffer = 1; policy = Drops; from = 0 }
 
 -- a writer of that producer that stalls
 abbrev pub stalling : WriterSpec
-stalling = record { producer = 1; buffer = 1; policy = Stalls }
+stalling = record { producer = 1; buffer = 1; policy = Stalls; from = 0 }
 
 -- two packets of the first writer, with a flush between them, from this line of the text on
 abbrev pub two_packets : (at : ℕ) (first second : List Shown) → List NumberedLine

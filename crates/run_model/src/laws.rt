@@ -1,5 +1,5 @@
 //! The laws: contracts of functions with nothing to do.
-ghost use Rattle.run_model.specs.Laws.{EveryRunIsFaithful, EveryStoppedRunIsFaithful, EveryRunIsBalanced, EveryRunCountsPackets, EveryEnoughRunIsComplete, LeftChunksAreApart, UncollectedChunksAreUsedOnce, NothingIsBegunBehindLosses, LostClaimsFindHad};
+ghost use Rattle.run_model.specs.Laws.{EveryRunIsFaithful, EveryStoppedRunIsFaithful, EveryRunIsBalanced, EveryRunCountsPackets, EveryEnoughRunIsComplete, LinesTakeAtMost, LeftChunksAreApart, UncollectedChunksAreUsedOnce, NothingIsBegunBehindLosses, LostClaimsFindHad};
 ghost use Rattle.run_model.specs.FlushLaws.{EveryRunFlushIsSettled};
 ghost use Rattle.run_model.specs.Worked.{OneChunkHoldsOnePacket, OneCollectFreesOneChunk};
 ghost use Rattle.run_model.specs.WorkedAnswers.{WorkedAnswers};
@@ -38,6 +38,11 @@ pub fn every_run_flush_is_settled()
 /// The numbers of a report's flush requests, and the flushes of answers among a writer's calls, computed.
 pub fn worked_answers()
     ensures { WorkedAnswers }
+{}
+
+/// While the threads run no more chunks are taken than lines allow, where no writer asks for help.
+pub fn lines_take_at_most()
+    ensures { LinesTakeAtMost }
 {}
 
 /// What writers completed and nobody took until the threads were done is in chunks of its own.

@@ -22,6 +22,8 @@ use Rattle.service_core.proofs.QuietLemmas.{adds_quiet}
 use Rattle.replay_model.specs.Played.{buffers_of}
 use Rattle.run_model.specs.Reads.{GoesByReads}
 use Rattle.run_model.specs.Settled.{ClosesTo, HasClosedAll}
+use Rattle.chunk_plain.specs.Plain.{first_world}
+use Rattle.run_model.specs.Lines.{PlaysAll}
 use Rattle.thread_service.specs.declared.service.Service.{Service}
 use Rattle.thread_service.specs.Reading.{GoesUnread, IsKnownWhole}
 use Rattle.thread_service.specs.Serving.{core_of, view_in, desk_in, Serves}
@@ -110,12 +112,14 @@ module _ (scenario : Parts) (settled : Settled) (is : IsSettled scenario settled
 
       -- all was done, and then closed
       abbrev pub closed_all : GoesByReads (setup_in settled.table) (buffers_of scenario (setup_in settled.table)) scenario.lines [] (history_of (known_by_pass settled.pass))
+          → PlaysAll (setup_in settled.table) (buffers_of scenario (setup_in settled.table)) scenario.lines (first_world (setup_in settled.table)).service is.stood.service
           → HasClosedAll scenario (setup_in settled.table) (record { chunks = []; writers = views_of settled.seats.items; service = view_in final })
-      closed_all asked = record {
+      closed_all asked played = record {
         done = done_all scenario settled is final ending.serves rises own no_part account taken true (closed_here scenario settled closed final is ending.all_closed ending.keeps);
         settled = view_in settled.service;
         closed = view_in closed;
-        taken_by = is.taken_by;
+        played = played;
+        settles = is.settles;
         whole = whole_here scenario settled is final ending.serves rises own no_part account taken;
         opened = opened_here scenario settled is;
         closes = subst (λ (n : ℕ). ClosesTo setup n (view_in settled.service) (view_in closed)) is.producers ending.closes;

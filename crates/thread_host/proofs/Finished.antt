@@ -20,6 +20,8 @@ use Rattle.replay_model.specs.Played.{buffers_of}
 use Rattle.run_model.specs.Answered.{HasAnsweredAll, run_sums}
 use Rattle.run_model.specs.Reads.{GoesByReads}
 use Rattle.run_model.specs.Settled.{IsRun}
+use Rattle.chunk_plain.specs.Plain.{first_world}
+use Rattle.run_model.specs.Lines.{PlaysAll}
 use Rattle.thread_service.specs.declared.service.Service.{Service}
 use Rattle.thread_service.specs.Reading.{IsKnownWhole}
 use Rattle.thread_service.specs.Serving.{core_of, view_in, desk_in}
@@ -90,9 +92,10 @@ module _ (scenario : Parts) (settled : Settled) (is : IsSettled scenario settled
 
     run_is : GoesByReads (setup_in settled.table) (buffers_of scenario (setup_in settled.table)) scenario.lines [] (history_of (known_by_pass settled.pass))
         → HasAnsweredAll scenario (setup_in settled.table) (view_in settled.service)
+        → PlaysAll (setup_in settled.table) (buffers_of scenario (setup_in settled.table)) scenario.lines (first_world (setup_in settled.table)).service is.stood.service
         → IsRun scenario (setup_in settled.table) (record { chunks = []; writers = views_of settled.seats.items; service = view_in final })
-    run_is asked answered = record {
-      before = closed_all scenario settled is closed final ending pass only account taken goes known asked;
+    run_is asked answered played = record {
+      before = closed_all scenario settled is closed final ending pass only account taken goes known asked played;
       answered = answered_still scenario setup (view_in settled.service) (view_in final) letters answered;
       last = reads_out.last;
       reads = reads_out.reads;
@@ -103,7 +106,7 @@ module _ (scenario : Parts) (settled : Settled) (is : IsSettled scenario settled
         → ((place : ℕ) → place < length (setup_in settled.table).writers → slice_index_or done.sequences.items place no_counts
         ≡ packets_in (setup_in settled.table) final place (slice_index_or settled.counts.sequences.items place no_counts))
         → done.flushes.items ≡ settled.counts.flushes.items
-        → HasFinished scenario settled before after done
+        → HasFinished scenario settled is before after done
     has_finished done buffers long each flushes =
         let told = reads_out.tells.tells in
         let first = first_stays setup (core_of closed) (core_of final) ending.keeps.fields ∙ began scenario settled is closed final ending in

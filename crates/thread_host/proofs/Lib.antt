@@ -7,6 +7,7 @@ pub mod Parts
 pub mod ReadAnswers
 pub mod Ordered
 pub mod Collected
+pub mod Turning
 pub mod Growing
 pub mod Made
 pub mod Seating

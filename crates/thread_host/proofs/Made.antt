@@ -4,15 +4,13 @@ use Rattle.std.specs.Prelude.{if◌then◌else◌}
 use Rattle.std.proofs.lemmas.Option.{slice_get_within}
 use Rattle.trace_base.specs.declared.policy.WriterSpec.{WriterSpec}
 use Rattle.trace_model.specs.Calls.{Call, Flushed}
-use Rattle.scenario_text.specs.declared.scenario.NumberedLine.{NumberedLine}
 use Rattle.scenario_text.specs.declared.scenario.Scenario.{Scenario}
 use Rattle.scenario_text.specs.Accepted.{calls_asked}
 use Rattle.scenario_text.specs.Scenario.{IsScenario, Parts, parts_of}
 use Rattle.scenario_text.proofs.ShortLemmas.{scenario_is_short}
 use Rattle.chunk_plain.specs.Plain.{first_world}
-use Rattle.chunk_plain.specs.Setup.{Setup, sequence_of}
-use Rattle.chunk_plain.specs.Views.{At, ServiceView, WriterView, asked_in, newcomer, taken_of}
-use Rattle.run_model.specs.Collected.{CollectedByLines}
+use Rattle.chunk_plain.specs.Setup.{sequence_of}
+use Rattle.chunk_plain.specs.Views.{At, ServiceView, WriterView, asked_in, newcomer}
 use Rattle.run_model.specs.Scraped.{has_part}
 use Rattle.chunk_words.specs.declared.host.HostTable.{HostTable}
 use Rattle.chunk_words.specs.declared.seats.WriterSeat.{WriterSeat}
@@ -24,7 +22,6 @@ use Rattle.session_core.specs.Sessions.{SessionValue, configured, moved, new_ses
 use Rattle.service_core.specs.Agreement.{is_closed, spec_at, spec_value}
 use Rattle.replay_host.specs.Asking.{IsReadyFor}
 use Rattle.replay_host.specs.Making.{buffer_asked}
-use Rattle.replay_host.proofs.BuiltLemmas.{unused}
 use Rattle.replay_host.specs.Lines.{MOST_REQUESTS}
 use Rattle.replay_model.specs.Flushes.{requests_in}
 use Rattle.replay_host.proofs.MadeLemmas.{all_ready, requests_few}
@@ -100,15 +97,6 @@ is_served scenario table service count serves laid opened buffers view session =
   kept = subst (λ (v : ServiceView). KeepsAnswers (length (setup_in table).writers) v.letters (serving.core_of service).session) (sym view)
       (answers_none (length (setup_in table).writers) count (serving.core_of service).session table.few_writers session);
 }
-
--- nothing was taken yet
-pub nothing_collected : (setup : Setup) (lines : List NumberedLine) (view : ServiceView) → view ≡ (first_world setup).service → CollectedByLines setup lines view
-nothing_collected setup lines view is place below nobody =
-    let none : (taken_of view place).count ≡ 0 = ap (λ (v : ServiceView). (taken_of v place).count) is ∙ (unused setup).none_taken place in
-    omega (arith, none)
-
-pub nothing_taken : (setup : Setup) (view : ServiceView) → view ≡ (first_world setup).service → (place : ℕ) → (taken_of view place).count ≡ 0
-nothing_taken setup view is place = ap (λ (v : ServiceView). (taken_of v place).count) is ∙ (unused setup).none_taken place
 
 -- ---- seats
 

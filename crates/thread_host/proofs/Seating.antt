@@ -6,7 +6,7 @@ use Rattle.std.proofs.lemmas.Option.{slice_get_within}
 use mathlib.Core.Option.{some-ne-none, some-injective}
 use Rattle.atomic_table.proofs.Lists.{at_longer}
 use Rattle.chunk_plain.proofs.Lists.{at_seam}
-use Rattle.chunk_plain.specs.declared.tokens.TheConstants.{ID_LIMIT}
+use Rattle.chunk_plain.specs.declared.tokens.TheConstants.{POSITION_LIMIT}
 use Rattle.chunk_plain.specs.Histories.{completed_images}
 use Rattle.chunk_plain.specs.Owned.{held_count}
 use Rattle.chunk_plain.specs.Setup.{producer_of, IsChunkOf}
@@ -82,12 +82,12 @@ done_seat lines table place writer seat counts played sits knows same counted_ =
   counts_are = counted_ ∙ ap (λ (v : WriterView). begun_counts v.calls) (sym knows);
 }
 
-few_begun : (begun : List BegunChunk) → held_count begun ≡ 0 → length (completed_images begun) ≤ ID_LIMIT → length begun ≤ ID_LIMIT
+few_begun : (begun : List BegunChunk) → held_count begun ≡ 0 → length (completed_images begun) ≤ POSITION_LIMIT → length begun ≤ POSITION_LIMIT
 few_begun begun none few = let all = counted begun in omega (arith, all, none, few)
 
 -- what the service hears of it
 pub heard_last : (lines : List NumberedLine) (table : HostTable) (place : ℕ) (view : ServiceView) (desk : Desk) (writer : TraceWriter) (seat : WriterSeat)
-    → HasPlayed lines last_flushes table place writer → known_by seat ≡ view_in writer → length (completed_images (view_in writer).begun) ≤ ID_LIMIT
+    → HasPlayed lines last_flushes table place writer → known_by seat ≡ view_in writer → length (completed_images (view_in writer).begun) ≤ POSITION_LIMIT
     → HasHeard (length view.looks) (with_tale desk view (core_of writer).seat.place (view_in writer).begun (last_flush (view_in writer).letters.answers)) place seat
 heard_last lines table place view desk writer seat played knows few =
     let begun = (view_in writer).begun in
@@ -100,7 +100,7 @@ heard_last lines table place view desk writer seat played knows few =
       begun_is = ap (λ (v : WriterView). v.begun) (sym knows);
       flush_is = ap (λ (v : WriterView). last_flush v.letters.answers) (sym knows);
       heard = omega arith;
-      few = subst (λ (v : WriterView). length v.begun ≤ ID_LIMIT) (sym knows) (few_begun begun played.done.none_held few);
+      few = subst (λ (v : WriterView). length v.begun ≤ POSITION_LIMIT) (sym knows) (few_begun begun played.done.none_held few);
     }
 
 -- and what it had heard before
@@ -172,7 +172,7 @@ whole_tale lines table view desk place seat counts inside done heard =
           (sym heard.begun_is)
           (subst (λ (p : ℕ). (id : ℕ) (entry : BegunChunk) → At (known_by seat).begun id entry → IsChunkOf setup (producer_of setup p) (chunk_of entry))
           (done.place_is ∙ sym here) done.sits.rests.rests.begun);
-      few = subst (λ (begun : List BegunChunk). length begun ≤ ID_LIMIT) (sym heard.begun_is) heard.few;
+      few = subst (λ (begun : List BegunChunk). length begun ≤ POSITION_LIMIT) (sym heard.begun_is) heard.few;
     }
 
 -- ---- seats and their views

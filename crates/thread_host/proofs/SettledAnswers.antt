@@ -5,33 +5,29 @@ use Rattle.std.specs.Option.{IsSomeAnd}
 use Rattle.std.proofs.lemmas.Option.{same_Some}
 use Rattle.chunk_plain.specs.Letters.{last_flush}
 use Rattle.chunk_plain.specs.Setup.{Setup}
-use Rattle.chunk_plain.specs.Views.{ServiceView, WriterView, taken_of}
+use Rattle.chunk_plain.specs.Views.{ServiceView, WriterView}
 use Rattle.chunk_words.specs.declared.host.HostTable.{HostTable}
 use Rattle.chunk_words.specs.declared.seats.ServiceSeat.{ServiceSeat}
 use Rattle.chunk_words.specs.declared.seats.WriterSeat.{WriterSeat}
 use Rattle.chunk_words.specs.Closed.{views_of}
 use Rattle.chunk_words.specs.Knows.{Tale}
 use Rattle.chunk_words.specs.Sits.{setup_in, known_by, known_by_service}
-use Rattle.scenario_text.specs.declared.scenario.NumberedLine.{NumberedLine}
 use Rattle.scenario_text.specs.Scenario.{Parts}
 use Rattle.service_core.specs.declared.service.ServiceCore.{ServiceCore}
 use Rattle.service_core.specs.Agreement.{KeepsRest, KeepsTaking}
 use Rattle.replay_model.specs.Flushes.{requests_in}
-use Rattle.run_model.specs.Collected.{CollectedByLines, taken_by_lines}
 use Rattle.thread_service.specs.declared.service.Service.{Service}
 use Rattle.thread_service.specs.Serving as serving
 use Rattle.thread_service.specs.Serving.{IsOnlySeat}
 use Rattle.thread_service.specs.Settling.{IsWholeTale}
 use Rattle.thread_writer.specs.declared.writer.TraceWriter.{TraceWriter}
 use Rattle.thread_writer.specs.Writing.{view_in}
-use Rattle.thread_host.specs.Growing.{IsHearing}
 use Rattle.thread_host.specs.Hosts.{HaveAnswered}
 use Rattle.thread_host.specs.Tally.{IsTally, KeepsAnswers, KeepsServing, KeepsSession}
 use Rattle.thread_host.specs.declared.tally.Tally.{Tally}
-use Rattle.thread_host.proofs.Collected.{taken_still}
 use Rattle.thread_host.proofs.Hosting.{held_of}
 use Rattle.thread_host.proofs.KeptAnswers.{answers_same}
-use Rattle.thread_host.proofs.ReadAnswers.{hears_letters, only_serving, rest_serving, serving_both, taking_serving}
+use Rattle.thread_host.proofs.ReadAnswers.{only_serving, rest_serving, serving_both, taking_serving}
 
 -- the tally of the host, which is there
 pub tally_there : (scenario : Parts) (table : HostTable) (services : Option Service) (service : Service) (tallies : Option Tally) (tally : Tally)
@@ -75,12 +71,6 @@ tale_still setup old new tale same whole = record {
   own = whole.own;
   few = whole.few;
 }
-
--- reading answers takes nothing
-pub heard_collected : (setup : Setup) (lines : List NumberedLine) (writers : ℕ) (old new : ServiceView) → IsHearing writers old new
-    → CollectedByLines setup lines old → CollectedByLines setup lines new
-heard_collected setup lines writers old new hears collected =
-    taken_still setup lines (taken_by_lines lines) old new (ap (λ (v : ServiceView). v.taken) (hears_letters writers old new hears).2) collected
 
 -- the writer of a seat
 same_view : (seats : List WriterSeat) (writers : List TraceWriter) (place : ℕ) (seat : WriterSeat) → views_of seats ≡ map view_in writers → slice_get seats place ≡ Some seat

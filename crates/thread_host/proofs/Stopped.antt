@@ -15,6 +15,8 @@ use Rattle.service_core.specs.Agreement.{first_of}
 use Rattle.replay_model.specs.Played.{buffers_of}
 use Rattle.run_model.specs.Reads.{GoesByReads}
 use Rattle.run_model.specs.Stopped.{StopsInEnd}
+use Rattle.chunk_plain.specs.Plain.{first_world}
+use Rattle.run_model.specs.Lines.{PlaysAll}
 use Rattle.thread_service.specs.declared.service.Service.{Service}
 use Rattle.thread_service.specs.Reading.{IsKnownWhole}
 use Rattle.thread_service.specs.Serving.{core_of, view_in, desk_in}
@@ -69,10 +71,14 @@ module _ (scenario : Parts) (settled : Settled) (is : IsSettled scenario settled
   module _ (account : IsAccount (setup_in settled.table) (desk_in settled.service).marks (views_of settled.seats.items) (view_in final)) (taken : AllTaken (view_in final) (views_of settled.seats.items))
       (goes : GoesOn (known_by_pass pass) (view_in final)) (known : IsKnownWhole (known_by_pass pass)) where
     stops_in_end : GoesByReads (setup_in settled.table) (buffers_of scenario (setup_in settled.table)) scenario.lines [] (history_of (known_by_pass settled.pass))
+        → PlaysAll (setup_in settled.table) (buffers_of scenario (setup_in settled.table)) scenario.lines (first_world (setup_in settled.table)).service is.stood.service
         → StopsInEnd scenario (setup_in settled.table) (record { chunks = []; writers = views_of settled.seats.items; service = view_in final }) fails_out.next
-    stops_in_end asked = record { before = closed_all scenario settled is closed final ending pass only account taken goes known asked; reads = fails_out.reads }
+    stops_in_end asked played = record {
+      before = closed_all scenario settled is closed final ending pass only account taken goes known asked played;
+      reads = fails_out.reads;
+    }
 
-    pub has_failed : HasFailed scenario settled before after
+    pub has_failed : HasFailed scenario settled is before after
     has_failed = record {
       ended = has_ended scenario settled is closed final ending pass only account taken goes known fails_out.tells.more fails_out.tells.records;
       next = fails_out.next;
@@ -91,13 +97,14 @@ module _ (scenario : Parts) (settled : Settled) (is : IsSettled scenario settled
   settled_seats = all_seats scenario settled is settled.service is.served.serves same_count is.served.own (λ sequence. refl)
 
   pub has_let_go : IsAccount (setup_in settled.table) (desk_in settled.service).marks (views_of settled.seats.items) (view_in settled.service) → AllTaken (view_in settled.service) (views_of settled.seats.items)
-      → GoesOn (known_by_pass settled.pass) (view_in settled.service) → HasLetGo scenario settled
+      → GoesOn (known_by_pass settled.pass) (view_in settled.service) → HasLetGo scenario settled is
   has_let_go account taken goes = record {
     world = record { chunks = []; writers = views_of settled.seats.items; service = view_in settled.service };
     writers = refl;
     service = refl;
     account = account;
     done = done_all scenario settled is settled.service is.served.serves same_count is.served.own (λ sequence. refl) account taken false is.served.opened;
-    taken_by = is.taken_by;
+    stood_is = refl;
+    settles = is.settles;
     goes = goes_unread (known_by_pass settled.pass) (view_in settled.service) is.known goes;
   }

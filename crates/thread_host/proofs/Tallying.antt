@@ -11,7 +11,7 @@ use Rattle.trace_model.specs.Calls.{Call}
 use Rattle.trace_model.specs.History.{buffers_after}
 use Rattle.trace_model.specs.Sequences.{sequence_in}
 use Rattle.chunk_plain.specs.Histories.{history_of}
-use Rattle.chunk_plain.specs.Setup.{Setup, sequence_of}
+use Rattle.chunk_plain.specs.Setup.{Setup, sequence_of, no_writer}
 use Rattle.chunk_plain.specs.Views.{WriterView}
 use Rattle.chunk_plain.specs.World.{World, writer}
 use Rattle.chunk_words.specs.declared.seats.WriterSeat.{WriterSeat}
@@ -21,7 +21,7 @@ use Rattle.loss_report.specs.declared.counts.SequenceCounts.{SequenceCounts}
 use Rattle.loss_report.specs.Report.{report_text}
 use Rattle.world_model.proofs.MakingLemmas.{first_long}
 use Rattle.scenario_text.specs.Scenario.{Parts}
-use Rattle.service_core.specs.Agreement.{first_of, buffer_of, spec_at, spec_value, no_writer}
+use Rattle.service_core.specs.Agreement.{first_of, buffer_of, spec_at, spec_value}
 use Rattle.service_core.specs.Routing.{buffer_at}
 use Rattle.service_core.proofs.RouteLemmas.{length_after}
 use Rattle.replay_model.specs.Played.{IsSetupOf, buffers_of, buffers_in as buffers_of_world, packet_counts, printed, report_with, AreBalanced}

@@ -2,7 +2,7 @@
 use Rattle.std.specs.Prelude.{◌≡◌, ℕ, ◌≤◌, List, Some, length, slice_get, slice_index_or}
 use Rattle.trace_model.specs.Calls.{Call}
 use Rattle.trace_model.specs.Packets.{begun_count, dropped_at_begin}
-use Rattle.chunk_plain.specs.declared.tokens.TheConstants.{ID_LIMIT}
+use Rattle.chunk_plain.specs.declared.tokens.TheConstants.{POSITION_LIMIT}
 use Rattle.chunk_plain.specs.Letters.{last_flush}
 use Rattle.chunk_plain.specs.Views.{At, ServiceView, taken_of}
 use Rattle.chunk_words.specs.declared.host.HostTable.{HostTable}
@@ -50,7 +50,7 @@ pub record HasHeard (looks : ℕ) (desk : Desk) (place : ℕ) (seat : WriterSeat
   pub begun_is : tale.begun ≡ (known_by seat).begun
   pub flush_is : tale.flush ≡ last_flush (known_by seat).letters.answers
   pub heard : tale.looks ≤ looks
-  pub few : length (known_by seat).begun ≤ ID_LIMIT
+  pub few : length (known_by seat).begun ≤ POSITION_LIMIT
 
 -- and so of each of these
 abbrev pub HasHeardAll : (looks : ℕ) → Desk → List WriterSeat → Type 0

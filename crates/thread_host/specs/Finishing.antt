@@ -7,6 +7,7 @@ use Rattle.trace_model.specs.Delivery.{Delivered, trace_of}
 use Rattle.trace_model.specs.History as model
 use Rattle.trace_model.specs.History.{records_after}
 use Rattle.chunk_plain.specs.Histories.{history_of}
+use Rattle.chunk_plain.specs.Plain.{first_world}
 use Rattle.chunk_plain.specs.Setup.{Setup, producer_of}
 use Rattle.chunk_plain.specs.Views.{ServiceView, asked_in}
 use Rattle.chunk_plain.specs.World.{World}
@@ -22,7 +23,7 @@ use Rattle.replay_host.specs.declared.fault.HostFault.TheVariants.{OutOfMemory, 
 use Rattle.replay_model.specs.Flushes.{requests_in}
 use Rattle.replay_model.specs.Played.{buffers_of, records_in, packet_counts, report_with, AreBalanced}
 use Rattle.run_model.specs.Answered.{HasAnsweredAll, run_sums}
-use Rattle.run_model.specs.Collected.{IsTakenBy}
+use Rattle.run_model.specs.Lines.{PlaysAll}
 use Rattle.run_model.specs.Reads.{GoesByReads}
 use Rattle.run_model.specs.Runs.{FailsRun, Runs}
 use Rattle.run_model.specs.Settled.{HasDoneAll, IsRun, ClosesTo, ReadsTo}
@@ -30,6 +31,8 @@ use Rattle.run_model.specs.Stopped.{ReadsSomeTo, StopsInEnd}
 use Rattle.thread_service.specs.Reading.{GoesUnread}
 use Rattle.thread_service.specs.declared.service.Service.{Service}
 use Rattle.thread_service.specs.Serving.{core_of, view_in, desk_in}
+use Rattle.thread_service.specs.Settling.{TakesAllOut}
+use Rattle.thread_host.specs.Hosts.{IsSettled}
 use Rattle.thread_host.specs.Jobs.{TellsReads, TellsUpTo}
 use Rattle.thread_host.specs.declared.settled.Settled.{Settled}
 
@@ -74,10 +77,10 @@ pub record HasEnded (scenario : Parts) (settled : Settled) : Type 0 where
       ≡ records_after (buffers_of scenario (setup_in settled.table)) (history_of (known_by_pass settled.pass)) ++ more
 
 -- What was settled has ended whole: behind the closes each buffer of the scenario was read in rising number, without limit, and the service
--- knows nothing more. Where the history that the pass knew went on by the reads of the scenario's lines, and all flush requests were made and
--- answered, the scenario was run. The sink took exactly the records that the world's history writes behind those that the pass knew, and the
+-- knows nothing more. Where the history that the pass knew went on by the reads of the scenario's lines, all flush requests were made and answered, and
+-- the service played all its lines until the writers were done, the scenario was run. The sink took exactly the records that the world's history writes behind those that the pass knew, and the
 -- counts are those of its report, where it counts each packet once and all requests were made.
-pub record HasFinished (scenario : Parts) (settled : Settled) (old new : Intake) (done : Done) : Type 0 where
+pub record HasFinished (scenario : Parts) (settled : Settled) (is : IsSettled scenario settled) (old new : Intake) (done : Done) : Type 0 where
   pub ended : HasEnded scenario settled
   pub last : List model.Event
   pub reads : ReadsTo (setup_in settled.table) (buffers_of scenario (setup_in settled.table)) (length scenario.buffers) last ended.closed
@@ -85,6 +88,8 @@ pub record HasFinished (scenario : Parts) (settled : Settled) (old new : Intake)
   pub run : GoesByReads (setup_in settled.table) (buffers_of scenario (setup_in settled.table)) scenario.lines []
       (history_of (known_by_pass settled.pass))
       → HasAnsweredAll scenario (setup_in settled.table) (view_in settled.service)
+      → PlaysAll (setup_in settled.table) (buffers_of scenario (setup_in settled.table)) scenario.lines (first_world (setup_in settled.table)).service
+      is.stood.service
       → IsRun scenario (setup_in settled.table) ended.world
   pub taken : new ≡ after_told old (trace_of ended.more)
   pub report : AreBalanced (packet_counts scenario (setup_in settled.table) ended.world)
@@ -93,28 +98,31 @@ pub record HasFinished (scenario : Parts) (settled : Settled) (old new : Intake)
       ≡ report_with scenario (setup_in settled.table) ended.world (run_sums (length (setup_in settled.table).writers) ended.world.service.letters)
 
 -- A write failed at the end: behind the closes the buffers of the scenario were read in rising number as far as this record, each without
--- limit, and the service knows nothing more. Where the history that the pass knew went on by the reads of the scenario's lines, the
--- scenario was run up to there. The sink took exactly the records that the world's history writes behind those that the pass knew, and then
+-- limit, and the service knows nothing more. Where the history that the pass knew went on by the reads of the scenario's lines, and the service played
+-- all its lines until the writers were done, the scenario was run up to there. The sink took exactly the records that the world's history writes behind those that the pass knew, and then
 -- at most a front part of the next one.
-pub record HasFailed (scenario : Parts) (settled : Settled) (old new : Intake) : Type 0 where
+pub record HasFailed (scenario : Parts) (settled : Settled) (is : IsSettled scenario settled) (old new : Intake) : Type 0 where
   pub ended : HasEnded scenario settled
   pub next : Delivered
   pub reads : ReadsSomeTo (setup_in settled.table) (buffers_of scenario (setup_in settled.table)) (length scenario.buffers) ended.closed
       ended.world.service next
   pub run : GoesByReads (setup_in settled.table) (buffers_of scenario (setup_in settled.table)) scenario.lines []
       (history_of (known_by_pass settled.pass))
+      → PlaysAll (setup_in settled.table) (buffers_of scenario (setup_in settled.table)) scenario.lines (first_world (setup_in settled.table)).service
+      is.stood.service
       → StopsInEnd scenario (setup_in settled.table) ended.world next
   pub part : TakesPart (after_told old (trace_of ended.more)) new next.bytes
 
 -- Nothing more was done of what was settled. There is one owned world of what its seats and its service know, in which all is done but that sequences are
 -- closed, and nothing was read behind what the pass knew.
-pub record HasLetGo (scenario : Parts) (settled : Settled) : Type 0 where
+pub record HasLetGo (scenario : Parts) (settled : Settled) (is : IsSettled scenario settled) : Type 0 where
   pub world : World
   pub writers : world.writers ≡ views_of settled.seats.items
   pub service : world.service ≡ view_in settled.service
   pub account : IsAccount (setup_in settled.table) (desk_in settled.service).marks world.writers world.service
   pub done : HasDoneAll scenario (setup_in settled.table) world false
-  pub taken_by : IsTakenBy (setup_in settled.table) scenario.lines done.stood.service world.service
+  pub stood_is : done.stood ≡ is.stood
+  pub settles : TakesAllOut (setup_in settled.table) (length (setup_in settled.table).ranges) is.stood.service world.service
   pub goes : GoesUnread (history_of (known_by_pass settled.pass)) (history_of world.service)
 
 -- the scenario was run, and these are the counts of its report

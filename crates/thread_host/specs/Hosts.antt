@@ -1,5 +1,5 @@
 -- What runs a scenario on threads, before its threads begin, once they are done, and once all is settled.
-use Rattle.std.specs.Prelude.{◌≡◌, ℕ, suc, ◌+◌, ◌^◌, ◌<◌, ◌≤◌, false, List, [], ◌∷◌, ◌++◌, length, Some, IsSomeAnd, slice_get, slice_index_or, vec_len, vec_capacity}
+use Rattle.std.specs.Prelude.{◌≡◌, ℕ, suc, ◌+◌, ◌^◌, ◌<◌, ◌≤◌, false, List, [], ◌∷◌, ◌++◌, length, Option, Some, IfSome, IsSomeAnd, slice_get, slice_index_or, vec_len, vec_capacity}
 use Rattle.trace_base.specs.declared.limits.TheConstants.{MAX_BUFFERS}
 use Rattle.trace_model.specs.Calls.{Call, Flushed}
 use Rattle.chunk_plain.specs.Letters.{last_flush}
@@ -23,7 +23,6 @@ use Rattle.replay_model.specs.Played.{IsSetupOf, buffers_of}
 use Rattle.replay_host.specs.Asking.{IsReadyFor}
 use Rattle.replay_host.specs.Lines.{MOST_REQUESTS}
 use Rattle.run_model.specs.Answered.{run_sums}
-use Rattle.run_model.specs.Collected.{CollectedByLines, IsTakenBy}
 use Rattle.run_model.specs.Scraped.{ScrapedByLines}
 use Rattle.run_model.specs.Settled.{HasDoneLines}
 use Rattle.thread_service.specs.declared.service.Service.{Service}
@@ -32,6 +31,8 @@ use Rattle.thread_service.specs.Serving as serving
 use Rattle.thread_service.specs.Serving.{Serves}
 use Rattle.thread_writer.specs.declared.writer.TraceWriter.{TraceWriter}
 use Rattle.thread_writer.specs.Writing.{core_of, view_in, Writes}
+use Rattle.thread_service.specs.Settling.{TakesAllOut}
+use Rattle.thread_host.specs.Growing.{IsHearing}
 use Rattle.thread_host.specs.Keeping.{AllOpen}
 use Rattle.thread_host.specs.Ending.{AreDoneSeats, AreTakenOut}
 use Rattle.thread_host.specs.Tally.{AreHeardInOrder, IsTally, KeepsAnswers}
@@ -104,15 +105,13 @@ pub record IsServed (scenario : Parts) (table : HostTable) (service : Service) :
 
 -- ---- the host
 
--- The host of a scenario: its table is laid out for it, its service is there and serves it, and it has the reading pass. No more was taken of a
--- writer than lines allow, where no writer of its producer asks for help. There is room for the seats of its writers and for the counts of its report, and the sums of requests are
--- those of the answers that the service has read.
+-- The host of a scenario: its table is laid out for it, its service is there and serves it, and it has the reading pass. There is room for the seats of
+-- its writers and for the counts of its report, and the sums of requests are those of the answers that the service has read.
 pub record IsHost (scenario : Parts) (host : Host) : Type 0 where
   pub laid : IsSetupOf scenario (setup_in host.table)
   pub specs : host.specs.items ≡ (setup_in host.table).writers
   pub producers : host.producers ≡ length (setup_in host.table).ranges
   pub served : IsSomeAnd host.service (IsServed scenario host.table)
-  pub collected : IsSomeAnd host.service (λ service. CollectedByLines (setup_in host.table) scenario.lines (serving.view_in service))
   pub pass : Passes host.table host.pass
   pub known : IsKnownWhole (known_by_pass host.pass)
   pub tallied : IsSomeAnd host.tally (λ tally. IsSomeAnd host.service (λ service.
@@ -133,9 +132,8 @@ HasReadAnswers table view = 0 < asked_in view.letters → (place : ℕ) → plac
     → (n : ℕ) × (chunks : ℕ) × At view.letters n (Heard place (asked_in view.letters) chunks)
 
 -- The writers have done their lines, and there is a world in which they were done: a schedule of steps leads to it from a table as it is made,
--- and it is among those that the service marked. All that they completed was taken: while the threads ran no more than lines allow, where no writer of
--- the producer asks for help, and what was left then producer by producer in rising number. Their seats are there, in their order, and with each what its writer counted.
--- Where all flush requests were made, their sums are those of the answers that the service has read.
+-- and it is among those that the service marked. All that they completed was taken, what was left then producer by producer in rising number. Their seats
+-- are there, in their order, and with each what its writer counted. Where all flush requests were made, their sums are those of the answers that the service has read.
 pub record IsSettled (scenario : Parts) (settled : Settled) : Type 0 where
   pub laid : IsSetupOf scenario (setup_in settled.table)
   pub producers : settled.producers ≡ length (setup_in settled.table).ranges
@@ -147,10 +145,10 @@ pub record IsSettled (scenario : Parts) (settled : Settled) : Type 0 where
   pub stood : World
   pub number : ℕ
   pub marked : At (serving.desk_in settled.service).marks number stood
-  pub reached : Leads (first_world (setup_in settled.table)) stood
+  pub reached : Leads (setup_in settled.table) (first_world (setup_in settled.table)) stood
   pub completed : (place : ℕ) (seat : WriterSeat) → slice_get settled.seats.items place ≡ Some seat
       → StaysCompleted (known_by seat).begun (writer stood place).begun
-  pub taken_by : IsTakenBy (setup_in settled.table) scenario.lines stood.service (serving.view_in settled.service)
+  pub settles : TakesAllOut (setup_in settled.table) (length (setup_in settled.table).ranges) stood.service (serving.view_in settled.service)
   pub pass : Passes settled.table settled.pass
   pub known : IsKnownWhole (known_by_pass settled.pass)
   pub few_buffers : length scenario.buffers ≤ MAX_BUFFERS
@@ -158,3 +156,9 @@ pub record IsSettled (scenario : Parts) (settled : Settled) : Type 0 where
   pub sequences : vec_len settled.counts.sequences ≡ length scenario.writers
   pub flushes : asked_in (serving.view_in settled.service).letters ≡ requests_in scenario.lines
       → settled.counts.flushes.items ≡ run_sums (length (setup_in settled.table).writers) (serving.view_in settled.service).letters
+
+-- So it is, and what the service knew in the world that it marked is what it knew before, and one answer more that was read of each writer.
+abbrev pub IsSettledBehind : Parts → (before : Option Service) → Settled → Type 0
+IsSettledBehind scenario before settled =
+    (is : IsSettled scenario settled)
+    × IfSome before (λ service. IsHearing (length (setup_in settled.table).writers) (serving.view_in service) is.stood.service)

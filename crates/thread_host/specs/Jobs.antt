@@ -1,6 +1,6 @@
 -- What the service's job does of a scenario's lines.
-use Rattle.std.specs.Prelude.{◌≡◌, ℕ, ◌+◌, Bool, true, false, List, ◌++◌, if◌then◌else◌}
-use Rattle.std.specs.List.{flat_map, sum_by}
+use Rattle.std.specs.Prelude.{◌≡◌, ◌+◌, List, ◌++◌}
+use Rattle.std.specs.List.{flat_map}
 use Rattle.byte_io.specs.Bytes.{Loan, Intake, told, untold, after_told, TakesPart}
 use Rattle.trace_model.specs.Buffers.{Buffer}
 use Rattle.trace_model.specs.Delivery.{Delivered, trace_of}
@@ -10,38 +10,11 @@ use Rattle.chunk_plain.specs.Histories.{history_of}
 use Rattle.chunk_plain.specs.Setup.{Setup}
 use Rattle.chunk_plain.specs.Views.{ServiceView, asked_in}
 use Rattle.scenario_text.specs.declared.scenario.LineKind.{LineKind}
-use Rattle.scenario_text.specs.declared.scenario.LineKind.TheVariants.{Collect, Scrape, Read, Request}
 use Rattle.scenario_text.specs.declared.scenario.NumberedLine.{NumberedLine}
 use Rattle.service_core.specs.Reading.{noted_read}
 use Rattle.replay_model.specs.Flushes.{request_count, requests_in}
 use Rattle.run_model.specs.Reads.{reads_by, GoesByReads, GoesUpTo, ReadsUpTo}
 use Rattle.thread_service.specs.Reading.{GoesUnread}
-
--- how often a line asks the service to take chunks: once, where it collects or scrapes
-abbrev pub takings_of : LineKind → ℕ
-takings_of (Collect producer) = 1
-takings_of (Scrape producer) = 1
-takings_of _ = 0
-
--- how often these lines do
-abbrev pub takings_in : List NumberedLine → ℕ
-takings_in lines = sum_by (λ (line : NumberedLine). takings_of line.what) lines
-
--- whether the service plays the line itself
-abbrev pub is_service_line : LineKind → Bool
-is_service_line (Collect producer) = true
-is_service_line (Scrape producer) = true
-is_service_line (Read buffer limit) = true
-is_service_line Request = true
-is_service_line _ = false
-
--- how often it reads its writers' answers for a line: once, before each of its own
-abbrev pub readings_of : LineKind → ℕ
-readings_of line = if is_service_line line then 1 else 0
-
--- how often it does for these lines
-abbrev pub readings_in : List NumberedLine → ℕ
-readings_in lines = sum_by (λ (line : NumberedLine). readings_of line.what) lines
 
 -- the loans on which a sink hands its bytes on
 abbrev pub loans_of : Intake → List Loan

@@ -2,6 +2,7 @@ pub mod Keeping
 pub mod Tally
 pub mod Growing
 pub mod Jobs
+pub mod Turns
 pub mod Ending
 pub mod Counting
 pub mod Hosts

@@ -36,10 +36,10 @@ impl Settled {
     pub fn finish<T: Sink>(self, out: &mut T) -> Result<Done, WriteFault>
         requires settled { (scenario : Parts) × IsSettled scenario self }
         requires may { T.may_write out.old }
-        ensures done { (scenario : Parts) → IsSettled scenario self
-            → IfOk result (HasFinished scenario self (T.taken out.old) (T.taken out.new)) }
-        ensures fails { (scenario : Parts) → IsSettled scenario self
-            → OnErr result (HasFailed scenario self (T.taken out.old) (T.taken out.new)) }
+        ensures done { (scenario : Parts) (is : IsSettled scenario self)
+            → IfOk result (HasFinished scenario self is (T.taken out.old) (T.taken out.new)) }
+        ensures fails { (scenario : Parts) (is : IsSettled scenario self)
+            → OnErr result (HasFailed scenario self is (T.taken out.old) (T.taken out.new)) }
         ensures stands { KeepsLoans (T.taken out.old) (T.taken out.new) }
         ensures count { CountsFaults (T.faults out.old) (T.faults out.new) result }
         ensures goes_on { OnOk result (T.may_write out.new) }
@@ -71,7 +71,7 @@ impl Settled {
     /// it tells is the account of the seats and the service that were settled.
     pub fn let_go(self)
         requires settled { (scenario : Parts) × IsSettled scenario self }
-        ensures left { (scenario : Parts) → IsSettled scenario self → HasLetGo scenario self }
+        ensures left { (scenario : Parts) (is : IsSettled scenario self) → HasLetGo scenario self is }
     {
         let Settled {
             table,

@@ -3,10 +3,11 @@ ghost use Rattle.std.specs.Prelude.{◌≡◌, ℕ, [], ◌∷◌, IfSome, IsSom
 ghost use Rattle.byte_io.specs.Bytes.{CountsFaults};
 ghost use Rattle.trace_model.specs.Calls.{Flushed};
 ghost use Rattle.chunk_plain.specs.Plain.{first_world};
-ghost use Rattle.chunk_plain.specs.Views.{asked_in, taken_of};
+ghost use Rattle.chunk_plain.specs.Views.{asked_in};
 ghost use Rattle.chunk_words.specs.Sits.{setup_in, known_by_pass};
 ghost use Rattle.scenario_text.specs.Scenario.{IsScenario, parts_of};
 ghost use Rattle.replay_model.specs.Played.{buffers_of};
+ghost use Rattle.run_model.specs.Lines.{PlaysAll, PlaysSome};
 ghost use Rattle.run_model.specs.Settled.{last_flushes};
 ghost use Rattle.thread_service.specs.Serving.{view_in};
 ghost use Rattle.thread_host.specs.Growing.{Grows};
@@ -92,8 +93,10 @@ impl Host {
     }
 
     /// Runs the scenario: each writer plays its lines on a thread of its own, beside the service's own
-    /// lines. The sink takes the records of the reads. After a write fault the service plays no more. What
-    /// the service knows grows by what is collected, scraped and read, by flush requests and the answers to
+    /// lines. The sink takes the records of the reads. The service plays its lines in their order, and after a
+    /// write fault no more of them; nothing comes between them but chunks taken for writers that may ask for
+    /// help, and answers that are read. What the
+    /// service knows grows by what is collected, scraped and read, by flush requests and the answers to
     /// them, and by nothing else. A line scrapes each producer that is scraped; and one collects or scrapes
     /// each that is collected, or a writer of the producer asks for help. Once all jobs are done each writer
     /// has answered the last flush request.
@@ -108,12 +111,17 @@ impl Host {
         requires host { IsHost (parts_of scenario.now) self.old }
         requires writers { AreReady scenario.now.lines self.old.table writers.old.items }
         requires unasked { asked_in (known_by_pass self.old.pass).letters ≡ 0 }
-        requires untaken { IsSomeAnd self.old.service (λ service. (place : ℕ) → (taken_of (view_in service) place).count ≡ 0) }
         requires may { T.may_write out.old }
         ensures host { IsHost (parts_of scenario.now) self.new }
         ensures table { self.new.table ≡ self.old.table }
         ensures grows { IfSome self.old.service (λ before. IfSome self.new.service (λ after.
             Grows (setup_in self.old.table) scenario.now.lines (view_in before) (view_in after))) }
+        ensures lines { OnOk result (IfSome self.old.service (λ before. IfSome self.new.service (λ after.
+            PlaysAll (setup_in self.old.table) (buffers_of (parts_of scenario.now) (setup_in self.old.table)) scenario.now.lines
+            (view_in before) (view_in after)))) }
+        ensures stopped { OnErr result (IfSome self.old.service (λ before. IfSome self.new.service (λ after.
+            PlaysSome (setup_in self.old.table) (buffers_of (parts_of scenario.now) (setup_in self.old.table)) scenario.now.lines
+            (view_in before) (view_in after)))) }
         ensures played { HavePlayed scenario.now.lines last_flushes self.new.table writers.new.items }
         ensures answered { HaveAnswered (asked_in (known_by_pass self.new.pass).letters) writers.new.items }
         ensures told { OnOk result (TellsLines (setup_in self.old.table) (buffers_of (parts_of scenario.now) (setup_in self.old.table))
@@ -141,12 +149,17 @@ impl Host {
         requires host { IsHost (parts_of scenario.now) self.old }
         requires writers { AreReady scenario.now.lines self.old.table writers.old.items }
         requires unasked { asked_in (known_by_pass self.old.pass).letters ≡ 0 }
-        requires untaken { IsSomeAnd self.old.service (λ service. (place : ℕ) → (taken_of (view_in service) place).count ≡ 0) }
         requires may { T.may_write out.old }
         ensures host { IsHost (parts_of scenario.now) self.new }
         ensures table { self.new.table ≡ self.old.table }
         ensures grows { IfSome self.old.service (λ before. IfSome self.new.service (λ after.
             Grows (setup_in self.old.table) scenario.now.lines (view_in before) (view_in after))) }
+        ensures lines { OnOk result (IfSome self.old.service (λ before. IfSome self.new.service (λ after.
+            PlaysAll (setup_in self.old.table) (buffers_of (parts_of scenario.now) (setup_in self.old.table)) scenario.now.lines
+            (view_in before) (view_in after)))) }
+        ensures stopped { OnErr result (IfSome self.old.service (λ before. IfSome self.new.service (λ after.
+            PlaysSome (setup_in self.old.table) (buffers_of (parts_of scenario.now) (setup_in self.old.table)) scenario.now.lines
+            (view_in before) (view_in after)))) }
         ensures played { HavePlayed scenario.now.lines (Flushed ∷ []) self.new.table writers.new.items }
         ensures told { OnOk result (TellsLines (setup_in self.old.table) (buffers_of (parts_of scenario.now) (setup_in self.old.table))
             scenario.now.lines (known_by_pass self.old.pass) (known_by_pass self.new.pass) (T.taken out.old) (T.taken out.new)) }

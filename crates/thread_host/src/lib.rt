@@ -28,7 +28,7 @@ mod writing;
 pub use help::{IdleHelp, LockHelp};
 pub use host::Host;
 pub use job::service_job;
-pub use locked::{LineTakings, Locked, Readings, Takings};
+pub use locked::{Locked, Readings, Takings, Turns};
 pub use name::HostName;
 pub use settled::Settled;
 pub use tally::Tally;

@@ -1,8 +1,9 @@
-//! The service behind a lock, and how often it was asked there to take chunks and to read answers.
-ghost use Rattle.std.specs.Prelude.{◌≡◌, ◌+◌, ◌<◌, ◌≤◌, true, List, length, take, IfOk, OnErr, OnOk};
+//! The service behind a lock, the turns of its own lines, and how often it was asked there to take chunks and
+//! to read answers.
+ghost use Rattle.std.specs.Prelude.{◌≡◌, ◌+◌, ◌<◌, ◌≤◌, true, List, length, IfOk, OnErr, OnOk};
 ghost use Rattle.byte_io.specs.Bytes.{CountsFaults, Intake};
 ghost use Rattle.trace_model.specs.History as model;
-ghost use Rattle.chunk_plain.specs.Views.{At, asked_in};
+ghost use Rattle.chunk_plain.specs.Views.{asked_in};
 ghost use Rattle.chunk_words.specs.Knows.{Away, with_stage};
 ghost use Rattle.chunk_words.specs.Sits.{Passes, known_by_pass};
 ghost use Rattle.scenario_text.specs.declared.scenario.LineKind.TheVariants as line;
@@ -12,7 +13,7 @@ ghost use Rattle.service_core.specs.Agreement.{KeepsRest, KeepsTaking};
 ghost use Rattle.service_core.specs.Reading.{NotesReads, ReadsAll, FailsAmong};
 ghost use Rattle.service_core.specs.Scraping.{TakesAndScrapes};
 ghost use Rattle.service_core.specs.Taking.{Takes, places_of};
-ghost use Rattle.run_model.specs.Collected.{CollectedByLines, TakenAtMost, has_asker, may_be_collected, taken_by_lines};
+ghost use Rattle.run_model.specs.Collected.{has_asker, may_be_collected};
 ghost use Rattle.run_model.specs.Scraped.{is_scraped_by};
 ghost use Rattle.thread_service.specs.Reading.{IsKnownWhole, PassReads};
 ghost use Rattle.thread_service.specs.Serving.{core_of, view_in, desk_in};
@@ -21,6 +22,7 @@ ghost use Rattle.thread_host.specs.Jobs.{FailsLine, TellsLine};
 ghost use Rattle.thread_host.specs.Keeping.{IsNamed, IsWhole, ServesNamed, AllOpen, BeganWith, IsStarted, HasOwn};
 ghost use Rattle.thread_host.specs.Keeping.{serves_named_prop, began_prop, started_prop, own_prop};
 ghost use Rattle.thread_host.specs.Tally.{IsTally, KeepsAnswers, KeepsSession, answers_prop, tally_prop};
+ghost use Rattle.thread_host.specs.Turns.{IsNext, PlaysTurns};
 
 use crate::name::HostName;
 use crate::reading::read_answers;
@@ -69,31 +71,31 @@ impl<L: Ledger> Takings<L> {
     }
 }
 
-/// How many of the lines that have chunks taken were played, in the hands of whoever plays them. Contracts
-/// see a number; it takes no bytes when the program runs. It is the whole share of a ledger whose book lies
-/// under the lock, so that both say the same number.
+/// How many turns the service's own lines took, in the hands of whoever plays them: one as a line begins,
+/// and one once it's done. Contracts see a number; it takes no bytes when the program runs. It is the whole
+/// share of a ledger whose book lies under the lock, so that both say the same number.
 #[derive(Drop)]
-pub struct LineTakings<N: HostName> {
+pub struct Turns<N: HostName> {
     share: Share<N>,
 }
 
-impl<N: HostName> Model for LineTakings<N> {
+impl<N: HostName> Model for Turns<N> {
     ghost use Rattle.std.specs.Prelude.{◌≡◌, ℕ};
 
     ghost Value = { ℕ };
 
-    ghost view = { λ takings. takings.share.amount };
+    ghost view = { λ turns. turns.share.amount };
 
-    ghost invariant = { λ takings. takings.share.parts ≡ N.all };
+    ghost invariant = { λ turns. turns.share.parts ≡ N.all };
 }
 
-impl<N: HostName> LineTakings<N> {
+impl<N: HostName> Turns<N> {
     /// By a whole share.
     pub fn new(share: Share<N>) -> Self
         requires { share.parts ≡ N.all }
         ensures { result ≡ share.amount }
     {
-        LineTakings { share }
+        Turns { share }
     }
 }
 
@@ -136,10 +138,10 @@ impl<L: Ledger> Readings<L> {
 /// commit. What it knows is what the type says that it knew, and what was collected, scraped and read
 /// since, with the flush requests that were made and the answers that were read. Of the lines that the type
 /// names, one scrapes each producer that was scraped; and one collects or scrapes each that was collected,
-/// or a writer of the producer asks for help. The book counts those of these lines that had chunks taken: of
-/// a producer none of whose writers asks for help nobody else did. The tally is of the answers that the
-/// service has read, and has room for as many requests as these lines make; and its session keeps of each
-/// writer just the newest of them.
+/// or a writer of the producer asks for help. The book counts the turns of the service's own lines: they were
+/// played in their order, and nothing came between them but chunks of producers one of whose writers asks for
+/// help, and answers that were read. The tally is of the answers that the service has read, and has room for
+/// as many requests as these lines make; and its session keeps of each writer just the newest of them.
 #[derive(Drop)]
 pub struct Locked<N: HostName> {
     pub(crate) service: Service,
@@ -151,7 +153,7 @@ pub struct Locked<N: HostName> {
     ghost began: { BeganWith N.setup N.first service } by { began_prop N.setup N.first service },
     ghost own: { HasOwn service } by { own_prop service },
     ghost grows: { Grows N.setup N.lines N.start (view_in service) },
-    ghost bounded: { TakenAtMost N.setup N.lines (take book.total (taken_by_lines N.lines)) (view_in service) },
+    ghost played: { PlaysTurns N.setup N.first N.lines book.total N.start (view_in service) },
     ghost started: { IsStarted service } by { started_prop service },
     ghost few: { asked_in (view_in service).letters ≤ requests_in N.lines },
     ghost tallied: { IsTally (requests_in N.lines) (length N.setup.writers) (view_in service).letters tally } by { tally_prop (requests_in N.lines) (length N.setup.writers) (view_in service).letters tally },
@@ -165,7 +167,7 @@ impl<N: HostName> Locked<N> {
         requires began { BeganWith N.setup N.first service }
         requires own { HasOwn service }
         requires grows { Grows N.setup N.lines N.start (view_in service) }
-        requires bounded { TakenAtMost N.setup N.lines (take book.total (taken_by_lines N.lines)) (view_in service) }
+        requires played { PlaysTurns N.setup N.first N.lines book.total N.start (view_in service) }
         requires started { IsStarted service }
         requires few { asked_in (view_in service).letters ≤ requests_in N.lines }
         requires tallied { IsTally (requests_in N.lines) (length N.setup.writers) (view_in service).letters tally }
@@ -180,25 +182,29 @@ impl<N: HostName> Locked<N> {
         }
     }
 
-    pub fn into_parts(self) -> (Service, Tally)
+    /// The service and the tally, once nobody plays a line any more.
+    pub fn into_parts(self, turns: Turns<N>) -> (Service, Tally)
+        requires ledger { IsWhole N.parts N.all }
         ensures service { result.0 ≡ self.service }
         ensures serves { ServesNamed N.table N.setup result.0 }
         ensures open { AllOpen N.setup result.0 }
         ensures began { BeganWith N.setup N.first result.0 }
         ensures own { HasOwn result.0 }
         ensures grows { Grows N.setup N.lines N.start (view_in result.0) }
-        ensures collected { CollectedByLines N.setup N.lines (view_in result.0) }
+        ensures played { PlaysTurns N.setup N.first N.lines turns N.start (view_in result.0) }
         ensures started { IsStarted result.0 }
         ensures few { asked_in (view_in result.0).letters ≤ requests_in N.lines }
         ensures tallied { IsTally (requests_in N.lines) (length N.setup.writers) (view_in result.0).letters result.1 }
         ensures kept { KeepsAnswers (length N.setup.writers) (view_in result.0).letters (core_of result.0).session }
     {
+        let mut turns = turns;
         let Locked {
             service,
             tally,
-            book: _,
+            mut book,
             of: _,
         } = self;
+        book.audit(&mut turns.share);
         (service, tally)
     }
 
@@ -222,42 +228,42 @@ impl<N: HostName> Locked<N> {
         self.service.collect(table, producer)
     }
 
-    /// Takes them for the next one of the lines that have chunks taken, which collects the producer.
+    /// Takes them for the next one of the service's lines, which collects the producer.
     pub fn collect_for_line(
         &mut self,
         table: &HostTable,
         producer: u16,
-        takings: &mut LineTakings<N>,
+        turns: &mut Turns<N>,
     ) -> u64
         requires ledger { IsWhole N.parts N.all }
         requires table { IsNamed N.table N.setup table.now }
         requires asked { may_be_collected N.setup N.lines producer ≡ true }
-        requires next { At (taken_by_lines N.lines) takings.old producer }
+        requires next { IsNext N.lines turns.old (line.Collect producer) }
         ensures keeps { KeepsRest N.setup (core_of self.old.service) (core_of self.new.service) }
         ensures takes { Takes N.setup (places_of producer 0 N.setup.writers) result
             (view_in self.old.service) (view_in self.new.service) }
         ensures desk { desk_in self.new.service ≡ desk_in self.old.service }
-        ensures counts { takings.new ≡ takings.old + 1 }
+        ensures turns { turns.new ≡ turns.old + 2 }
     {
-        self.book.audit(&mut takings.share);
-        self.book.add(&mut takings.share, 1);
+        self.book.audit(&mut turns.share);
+        self.book.add(&mut turns.share, 2);
         self.service.collect(table, producer)
     }
 
     /// Takes them, and then the finished fragments of the chunks that the writers hold. The next one of the
-    /// lines that have chunks taken scrapes the producer.
-    pub fn scrape(&mut self, table: &HostTable, producer: u16, takings: &mut LineTakings<N>) -> u64
+    /// service's lines scrapes the producer.
+    pub fn scrape(&mut self, table: &HostTable, producer: u16, turns: &mut Turns<N>) -> u64
         requires ledger { IsWhole N.parts N.all }
         requires table { IsNamed N.table N.setup table.now }
         requires line { is_scraped_by N.lines producer ≡ true }
-        requires next { At (taken_by_lines N.lines) takings.old producer }
+        requires next { IsNext N.lines turns.old (line.Scrape producer) }
         ensures keeps { KeepsRest N.setup (core_of self.old.service) (core_of self.new.service) }
         ensures scrapes { TakesAndScrapes N.setup producer result (view_in self.old.service) (view_in self.new.service) }
         ensures desk { desk_in self.new.service ≡ desk_in self.old.service }
-        ensures counts { takings.new ≡ takings.old + 1 }
+        ensures turns { turns.new ≡ turns.old + 2 }
     {
-        self.book.audit(&mut takings.share);
-        self.book.add(&mut takings.share, 1);
+        self.book.audit(&mut turns.share);
+        self.book.add(&mut turns.share, 2);
         self.service.scrape(table, producer)
     }
 
@@ -277,9 +283,11 @@ impl<N: HostName> Locked<N> {
     }
 
     /// Makes a flush request with the reading pass, which knows of it then. It is one of those for which
-    /// there is room: a line asks for each.
-    pub fn request_passing(&mut self, table: &HostTable, pass: &mut ReadPass)
+    /// there is room: the next one of the service's lines asks for it.
+    pub fn request_passing(&mut self, table: &HostTable, pass: &mut ReadPass, turns: &mut Turns<N>)
+        requires ledger { IsWhole N.parts N.all }
         requires table { IsNamed N.table N.setup table.now }
+        requires next { IsNext N.lines turns.old line.Request }
         requires pass { Passes table.now pass.old }
         requires known { IsKnownWhole (known_by_pass pass.old) }
         requires room { asked_in (known_by_pass pass.old).letters < requests_in N.lines }
@@ -290,14 +298,18 @@ impl<N: HostName> Locked<N> {
         ensures knows { known_by_pass pass.new ≡ view_in self.new.service }
         ensures told { (taken : Intake) → TellsLine N.setup N.first line.Request (known_by_pass pass.old) (known_by_pass pass.new) taken taken }
         ensures desk { with_stage (desk_in self.new.service) Away ≡ with_stage (desk_in self.old.service) Away }
+        ensures turns { turns.new ≡ turns.old + 2 }
     {
+        self.book.audit(&mut turns.share);
+        self.book.add(&mut turns.share, 2);
         match self.service.request_passing(table, pass) {
             Ok(_) => {}
             Err(_) => unreachable!(),
         }
     }
 
-    /// Reads a buffer with the reading pass.
+    /// Reads a buffer with the reading pass, for the next one of the service's lines. Where a write fails, no
+    /// line is next any more.
     pub fn read_passing<O: Sink>(
         &mut self,
         table: &HostTable,
@@ -305,8 +317,11 @@ impl<N: HostName> Locked<N> {
         buffer: u8,
         limit: u64,
         out: &mut O,
+        turns: &mut Turns<N>,
     ) -> Result<u64, WriteFault>
+        requires ledger { IsWhole N.parts N.all }
         requires table { IsNamed N.table N.setup table.now }
+        requires next { IsNext N.lines turns.old (line.Read buffer limit) }
         requires pass { Passes table.now pass.old }
         requires known { IsKnownWhole (known_by_pass pass.old) }
         requires may { O.may_write out.old }
@@ -327,7 +342,17 @@ impl<N: HostName> Locked<N> {
             → PassReads N.setup (core_of self.old.service) events (known_by_pass pass.old) (known_by_pass pass.new) }
         ensures count { CountsFaults (O.faults out.old) (O.faults out.new) result }
         ensures goes_on { OnOk result (O.may_write out.new) }
+        ensures turns { OnOk result (turns.new ≡ turns.old + 2) }
+        ensures last { OnErr result (turns.new ≡ turns.old + 1) }
     {
-        self.service.read_passing(table, pass, buffer, limit, out)
+        self.book.audit(&mut turns.share);
+        self.book.add(&mut turns.share, 1);
+        match self.service.read_passing(table, pass, buffer, limit, out) {
+            Ok(delivered) => {
+                self.book.add(&mut turns.share, 1);
+                Ok(delivered)
+            }
+            Err(fault) => Err(fault),
+        }
     }
 }

@@ -3,7 +3,7 @@ use std::marker::Brand;
 use std::sync::ledger::Ledger;
 
 /// A table by what its seats know of it, known in proofs alone. Its ledger is the one on which stands how
-/// many of its lines had chunks taken.
+/// many turns its service's own lines took.
 pub trait HostName: Ledger {
     ghost use Rattle.std.specs.Prelude.{ℕ, List};
     ghost use Rattle.atomic_table.specs.Seated.{TableId};

@@ -2,8 +2,8 @@
 ghost use Rattle.std.specs.Prelude.{◌≡◌, ℕ, ◌<◌, ◌≤◌, [], ◌∷◌, length, IfOk, OnErr, OnOk};
 ghost use Rattle.byte_io.specs.Bytes.{CountsFaults};
 ghost use Rattle.trace_model.specs.Calls.{Flushed};
-ghost use Rattle.chunk_plain.specs.Views.{asked_in, taken_of};
-ghost use Rattle.run_model.specs.Collected.{CollectedByLines};
+ghost use Rattle.chunk_plain.specs.Views.{asked_in};
+ghost use Rattle.run_model.specs.Lines.{PlaysAll, PlaysSome};
 ghost use Rattle.chunk_words.specs.Sits.{Passes, known_by_pass};
 ghost use Rattle.replay_host.specs.Lines.{MOST_REQUESTS};
 ghost use Rattle.replay_model.specs.Flushes.{requests_in};
@@ -16,7 +16,7 @@ ghost use Rattle.thread_host.specs.Keeping.{IsNamed, IsWhole, ServesNamed, AllOp
 ghost use Rattle.thread_host.specs.Tally.{IsTally, KeepsAnswers};
 
 use crate::job::service_job;
-use crate::locked::{LineTakings, Locked, Readings, Takings};
+use crate::locked::{Locked, Readings, Takings, Turns};
 use crate::name::HostName;
 use crate::tally::Tally;
 use crate::writing::writer_job;
@@ -180,9 +180,9 @@ fn job_on<N: HostName, R: Wait, G: Gate, K: Ledger>(
 }
 
 /// The service plays its lines beside the writers, each of which plays its own. The service comes back
-/// as one of the same table, with the tally of the answers that it has read. How many of its lines had
-/// chunks taken stands on the ledger of the first blank, which the table's name has, and how often it had
-/// answers read on that of the second.
+/// as one of the same table, with the tally of the answers that it has read. How many turns its lines took
+/// stands on the ledger of the first blank, which the table's name has, and how often it had answers read on
+/// that of the second.
 pub fn run_named<
     N: HostName + Send + Sync,
     R: Threads + Wait + Sync,
@@ -201,7 +201,7 @@ pub fn run_named<
     pass: &mut ReadPass,
     out: &mut O,
     writers: &mut [TraceWriter],
-    takings: Blank,
+    turns: Blank,
     readings: Blank,
 ) -> (Service, Tally, Result<(), WriteFault>)
     requires table { IsNamed N.table N.setup table.now }
@@ -223,10 +223,10 @@ pub fn run_named<
     requires known { IsKnownWhole (known_by_pass pass.old) }
     requires may { O.may_write out.old }
     requires ready { AreReadyFrom own.now table.now 0 writers.old }
-    requires takings_name { takings.name ≡ N.name }
-    requires takings_parts { takings.parts ≡ N.parts }
-    requires takings_all { IsWhole N.parts N.all }
-    requires untaken { (place : ℕ) → (taken_of (view_in service) place).count ≡ 0 }
+    requires turns_name { turns.name ≡ N.name }
+    requires turns_parts { turns.parts ≡ N.parts }
+    requires turns_all { IsWhole N.parts N.all }
+    requires start { view_in service ≡ N.start }
     requires readings_name { readings.name ≡ K.name }
     requires readings_parts { readings.parts ≡ K.parts }
     requires readings_part { 0 < K.parts }
@@ -235,7 +235,8 @@ pub fn run_named<
     ensures began { BeganWith N.setup N.first result.0 }
     ensures own { HasOwn result.0 }
     ensures grows { Grows N.setup N.lines N.start (view_in result.0) }
-    ensures collected { CollectedByLines N.setup N.lines (view_in result.0) }
+    ensures lines { OnOk result.2 (PlaysAll N.setup N.first N.lines N.start (view_in result.0)) }
+    ensures stopped { OnErr result.2 (PlaysSome N.setup N.first N.lines N.start (view_in result.0)) }
     ensures started { IsStarted result.0 }
     ensures few { asked_in (view_in result.0).letters ≤ requests_in N.lines }
     ensures tallied { IsTally (requests_in N.lines) (length N.setup.writers) (view_in result.0).letters result.1 }
@@ -251,9 +252,9 @@ pub fn run_named<
     ensures goes_on { OnOk result.2 (O.may_write out.new) }
     ensures played { HavePlayedFrom own.now table.now 0 writers.old writers.new }
 {
-    let (book, share) = takings.open::<N>();
+    let (book, share) = turns.open::<N>();
     let locked = Mutex::new(Locked::<N>::new(service, tally, book));
-    let mut takings = LineTakings::<N>::new(share);
+    let mut turns = Turns::<N>::new(share);
     let mut readings = Readings::<K>::new(readings);
     let (told, ()) = join_mut(
         rt,
@@ -266,7 +267,7 @@ pub fn run_named<
                 lines,
                 pass,
                 out,
-                &mut takings,
+                &mut turns,
                 &mut readings,
             )
         },
@@ -274,6 +275,6 @@ pub fn run_named<
             requires { IsNamed N.table N.setup table.now × (specs.now ≡ N.setup.writers) × (own.now ≡ N.lines) × AreReadyFrom own.now table.now 0 writers.now }
         { writers_from(rt, gate, table, &locked, specs, own, 0, writers) },
     );
-    let (service, tally) = locked.into_inner().into_parts();
+    let (service, tally) = locked.into_inner().into_parts(turns);
     (service, tally, told)
 }

@@ -1,7 +1,7 @@
 //! A run, once its threads are done and all that its writers completed is taken.
 ghost use Rattle.std.specs.Prelude.{◌≡◌, ◌≤◌, false, List, [], length, map, vec_capacity, IfSome};
 ghost use Rattle.chunk_plain.specs.Views.{ServiceView, asked_in};
-ghost use Rattle.chunk_plain.specs.declared.tokens.TheConstants.{ID_LIMIT};
+ghost use Rattle.chunk_plain.specs.declared.tokens.TheConstants.{POSITION_LIMIT};
 ghost use Rattle.chunk_plain.specs.Histories.{completed_images};
 ghost use Rattle.chunk_words.specs.declared.host.HostTable.{HostTable};
 ghost use Rattle.chunk_words.specs.Closed.{views_of};
@@ -18,7 +18,7 @@ ghost use Rattle.thread_service.specs.Settling.{TakesAllOut};
 ghost use Rattle.thread_writer.specs.Writing.{core_of, view_in, Writes};
 ghost use Rattle.thread_host.specs.Ending.{begun_counts, AreDoneSeats, HasHeardAll};
 ghost use Rattle.thread_host.specs.Growing.{IsHearing};
-ghost use Rattle.thread_host.specs.Hosts.{IsHost, IsSettled, HaveAnswered, HasReadAnswers, HavePlayed};
+ghost use Rattle.thread_host.specs.Hosts.{IsHost, IsSettledBehind, HaveAnswered, HasReadAnswers, HavePlayed};
 ghost use Rattle.thread_host.specs.Tally.{KeepsServing};
 
 use crate::host::Host;
@@ -50,7 +50,7 @@ impl Host {
     pub fn settle(self, writers: Vec<TraceWriter>) -> Settled
         requires played { (scenario : Parts) × IsHost scenario self × HavePlayed scenario.lines last_flushes self.table writers.items }
         ensures settled { (scenario : Parts) → IsHost scenario self → HavePlayed scenario.lines last_flushes self.table writers.items
-            → IsSettled scenario result }
+            → IsSettledBehind scenario self.service result }
         ensures writers { views_of result.seats.items ≡ map view_in writers.items }
         ensures service { IfSome self.service (λ before. KeepsServing (setup_in self.table)
             (serving.core_of before) (serving.core_of result.service)) }
@@ -158,7 +158,7 @@ fn end_writer(
     ensures sits { Sits table.now result.0 }
     ensures knows { known_by result.0 ≡ view_in writer }
     ensures place { result.0.place ≡ (core_of writer).seat.place }
-    ensures few { length (completed_images (view_in writer).begun) ≤ ID_LIMIT }
+    ensures few { length (completed_images (view_in writer).begun) ≤ POSITION_LIMIT }
     ensures counts { result.1 ≡ begun_counts (view_in writer).calls }
 {
     ids_fit(&writer);
@@ -175,9 +175,9 @@ fn end_writer(
     (seat, counts)
 }
 
-/// The ids of completed chunks fit their type. It does nothing: the writer's own counter shows it.
+/// The positions of completed chunks fit their type. It does nothing: the writer's own counter shows it.
 fn ids_fit(writer: &TraceWriter)
-    ensures { (table : HostTable) → Writes table writer.now → length (completed_images (view_in writer.now).begun) ≤ ID_LIMIT }
+    ensures { (table : HostTable) → Writes table writer.now → length (completed_images (view_in writer.now).begun) ≤ POSITION_LIMIT }
 {
     let _completed = writer.completed();
 }

@@ -1,9 +1,12 @@
-use Rattle.std.proofs.Common.{refl, sym, ap, subst, arith}
+use Rattle.std.proofs.Common.{◌∙◌, ◌+◌, refl, sym, ap, subst}
+use Rattle.std.specs.Prelude.{if◌then◌else◌}
 use Rattle.chunk_words.specs.Sits.{known_by_pass}
 use Rattle.scenario_text.specs.declared.scenario.LineKind.{LineKind}
-use Rattle.thread_host.specs.Jobs.{TellsLine, takings_of}
-use Rattle.thread_host.proofs.Counted.{none_asked}
+use Rattle.run_model.specs.Lines.{is_service_line}
+use Rattle.thread_host.specs.Jobs.{TellsLine}
+use Rattle.thread_host.specs.Turns.{IsNext}
 use Rattle.thread_host.proofs.Telling.{collect_tells, scrape_tells, unread_tells}
+use Rattle.thread_host.proofs.Turning.{none_own}
 use Rattle.thread_host.proofs.job.play_line.Goals as goal
 
 pub returns-in-Collect-clause-told : goal.returns-in-Collect-clause-told
@@ -24,8 +27,33 @@ returns-in-Request-clause-told g c =
 pub request_passing-requires-clause-room : goal.request_passing-requires-clause-room
 request_passing-requires-clause-room g c = c.requires.room c.in-Request.is
 
-pub returns-in-Request-clause-asks : goal.returns-in-Request-clause-asks
-returns-in-Request-clause-asks g c = let none = ap takings_of c.in-Request.is in omega (arith, none)
+pub collect_for_line-taken-requires-clause-next : goal.collect_for_line-taken-requires-clause-next
+collect_for_line-taken-requires-clause-next g c =
+    subst (λ (kind : LineKind). IsNext g.N.HostName.lines c.args.turns.now kind) c.in-Collect.is (c.requires.next (ap is_service_line c.in-Collect.is))
+
+pub scrape-taken-requires-clause-next : goal.scrape-taken-requires-clause-next
+scrape-taken-requires-clause-next g c =
+    subst (λ (kind : LineKind). IsNext g.N.HostName.lines c.args.turns.now kind) c.in-Scrape.is (c.requires.next (ap is_service_line c.in-Scrape.is))
+
+pub request_passing-requires-clause-next : goal.request_passing-requires-clause-next
+request_passing-requires-clause-next g c =
+    subst (λ (kind : LineKind). IsNext g.N.HostName.lines c.args.turns.now kind) c.in-Request.is (c.requires.next (ap is_service_line c.in-Request.is))
+
+pub read_passing-requires-clause-next : goal.read_passing-requires-clause-next
+read_passing-requires-clause-next g c =
+    subst (λ (kind : LineKind). IsNext g.N.HostName.lines c.args.turns.now kind) c.in-Read.is (c.requires.next (ap is_service_line c.in-Read.is))
+
+pub returns-in-Collect-clause-turns : goal.returns-in-Collect-clause-turns
+returns-in-Collect-clause-turns g c =
+    c.collect_for_line-taken.ensures.turns ∙ ap (λ (kind : LineKind). c.args.turns.now + (if is_service_line kind then 2 else 0)) (sym c.in-Collect.is)
+
+pub returns-in-Scrape-clause-turns : goal.returns-in-Scrape-clause-turns
+returns-in-Scrape-clause-turns g c =
+    c.scrape-taken.ensures.turns ∙ ap (λ (kind : LineKind). c.args.turns.now + (if is_service_line kind then 2 else 0)) (sym c.in-Scrape.is)
+
+pub returns-in-Request-clause-turns : goal.returns-in-Request-clause-turns
+returns-in-Request-clause-turns g c =
+    c.request_passing.ensures.turns ∙ ap (λ (kind : LineKind). c.args.turns.now + (if is_service_line kind then 2 else 0)) (sym c.in-Request.is)
 
 pub returns : goal.returns
 returns g c = record {
@@ -37,5 +65,6 @@ returns g c = record {
   stands = refl;
   count = refl;
   goes_on = c.requires.may;
-  asks = let none = none_asked c.args.line.now c.in_default.not-Collect c.in_default.not-Scrape in omega (arith, none);
+  turns = none_own c.args.line.now c.in_default.not-Collect c.in_default.not-Scrape c.in_default.not-Read c.in_default.not-Request c.args.turns.now;
+  last = tt;
 }

@@ -1,14 +1,15 @@
 -- Each line is played behind those before it.
-use Rattle.std.proofs.Common.{◌≡◌, ◌∙◌, ◌+◌, ◌≤◌, List, [], ◌∷◌, ◌++◌, refl, sym, ap, subst, append-nil, append_assoc, arith}
+use Rattle.std.proofs.Common.{◌≡◌, ◌∙◌, ◌+◌, List, [], ◌∷◌, ◌++◌, length, refl, sym, ap, subst, append-nil, append_assoc, arith}
 use Rattle.chunk_words.specs.Sits.{known_by_pass}
 use Rattle.scenario_text.specs.declared.scenario.NumberedLine.{NumberedLine}
 use Rattle.replay_model.specs.Flushes.{request_count, requests_in}
-use Rattle.thread_host.specs.Jobs.{FailsLines, TellsLines, readings_in, takings_of, takings_in}
-use Rattle.run_model.specs.Collected.{taken_by_line}
-use Rattle.thread_host.proofs.Collected.{collected_here, next_taken}
-use Rattle.thread_host.proofs.Counted.{readings_more, requests_both, takings_more, takings_front}
+use Rattle.run_model.specs.Lines.{service_lines}
+use Rattle.thread_host.specs.Jobs.{FailsLines, TellsLines}
+use Rattle.thread_host.proofs.Collected.{collected_here}
+use Rattle.thread_host.proofs.Counted.{requests_both}
 use Rattle.thread_host.proofs.Parts.{scraped_here}
 use Rattle.thread_host.proofs.Telling.{fails_behind, on_err, tells_none, tells_more}
+use Rattle.thread_host.proofs.Turning.{next_line, readings_more, turns_more}
 use Rattle.thread_host.proofs.job.service_job.Goals as goal
 
 pub lines-init : goal.lines-init
@@ -19,7 +20,7 @@ lines-init g c = record {
   known = c.requires.known;
   told = tells_none g.N.HostName.setup g.N.HostName.first (known_by_pass c.args.pass.now) (g.O.Sink.taken c.args.out.now);
   stands = refl;
-  asks = omega arith;
+  turns = c.requires.first;
   reads = omega arith;
   steady = refl;
   may = c.requires.may;
@@ -35,17 +36,11 @@ play_line-requires-clause-scraped g c producer is =
     scraped_here c.lines.invariant.before c.next.new.self g.N.HostName.lines c.in-Some.line producer
     (ap (λ (ls : List NumberedLine). c.lines.invariant.before ++ ls) (sym c.in-Some.ensures.first) ∙ c.lines.invariant.all ∙ c.requires.lines) is
 
-pub play_line-requires-clause-collects : goal.play_line-requires-clause-collects
-play_line-requires-clause-collects g c producer is =
-    next_taken c.lines.invariant.before c.next.new.self g.N.HostName.lines c.in-Some.line producer c.lines.takings
+pub play_line-requires-clause-next : goal.play_line-requires-clause-next
+play_line-requires-clause-next g c own =
+    next_line c.lines.invariant.before c.next.new.self g.N.HostName.lines c.in-Some.line c.lines.turns
     (ap (λ (ls : List NumberedLine). c.lines.invariant.before ++ ls) (sym c.in-Some.ensures.first) ∙ c.lines.invariant.all ∙ c.requires.lines)
-    (ap taken_by_line is) (let none = c.requires.none_taken in omega (arith, c.lines.invariant.asks, none))
-
-pub play_line-requires-clause-scrapes : goal.play_line-requires-clause-scrapes
-play_line-requires-clause-scrapes g c producer is =
-    next_taken c.lines.invariant.before c.next.new.self g.N.HostName.lines c.in-Some.line producer c.lines.takings
-    (ap (λ (ls : List NumberedLine). c.lines.invariant.before ++ ls) (sym c.in-Some.ensures.first) ∙ c.lines.invariant.all ∙ c.requires.lines)
-    (ap taken_by_line is) (let none = c.requires.none_taken in omega (arith, c.lines.invariant.asks, none))
+    c.lines.invariant.turns own
 
 pub play_line-requires-clause-room : goal.play_line-requires-clause-room
 play_line-requires-clause-room g c is =
@@ -73,12 +68,9 @@ lines-preserved g c =
           (known_by_pass c.play_line.new.pass) (g.O.Sink.taken c.args.out.now) (g.O.Sink.taken c.lines.out) (g.O.Sink.taken c.play_line.new.out)
           c.lines.invariant.told c.in_ok-play_line.ensures.told;
       stands = c.in_ok-play_line.ensures.stands ∙ c.lines.invariant.stands;
-      asks =
-          let more = takings_more before line in
-          omega (arith, more, c.in_ok-play_line.ensures.asks, c.lines.invariant.asks);
-      reads =
-          let more = readings_more before line in let one = c.begin_line-number.ensures.reads in
-          omega (arith, more, one, c.lines.invariant.reads);
+      turns = turns_more before line c.lines.turns c.play_line.new.turns c.lines.invariant.turns c.in_ok-play_line.ensures.turns;
+      reads = readings_more before line (c.args.readings.now) c.lines.readings c.begin_line-number.new.readings c.lines.invariant.reads
+          c.begin_line-number.ensures.reads;
       steady = c.in_ok-play_line.ensures.count ∙ c.lines.invariant.steady;
       may = c.in_ok-play_line.ensures.goes_on;
     }
@@ -106,22 +98,18 @@ returns-clause-told g c =
     subst (λ (ls : List NumberedLine). TellsLines g.N.HostName.setup g.N.HostName.first ls (known_by_pass c.args.pass.now) (known_by_pass c.lines.pass)
     (g.O.Sink.taken c.args.out.now) (g.O.Sink.taken c.lines.out)) all c.lines.invariant.told
 
-pub returns-in_err-play_line-clause-most : goal.returns-in_err-play_line-clause-most
-returns-in_err-play_line-clause-most g c =
-    let before : List NumberedLine = c.lines.invariant.before in
-    let line : NumberedLine = c.in-Some.line in
-    let all : before ++ line ∷ c.next.new.self ≡ c.args.lines.now =
-    ap (λ (ls : List NumberedLine). before ++ ls) (sym c.in-Some.ensures.first) ∙ c.lines.invariant.all in
-    let front = subst (λ (ls : List NumberedLine). takings_in before + takings_of line.what ≤ takings_in ls) all (takings_front before line c.next.new.self) in
-    omega (arith, front, c.in_err-play_line.ensures.asks, c.lines.invariant.asks)
+pub returns-in_err-play_line-clause-last : goal.returns-in_err-play_line-clause-last
+returns-in_err-play_line-clause-last g c =
+    let turns = c.lines.invariant.turns in let one = c.in_err-play_line.ensures.last in
+    on_err c.from_residual.result (length (service_lines c.lines.invariant.before), omega (arith, turns, one))
 
-pub returns-clause-asks : goal.returns-clause-asks
-returns-clause-asks g c =
+pub returns-clause-turns : goal.returns-clause-turns
+returns-clause-turns g c =
     let before : List NumberedLine = c.lines.invariant.before in
     let none = rw c.in_default.is at c.next.ensures.none in
     let all : before ≡ c.args.lines.now =
     sym (append-nil before) ∙ ap (λ (ls : List NumberedLine). before ++ ls) (sym none.0) ∙ c.lines.invariant.all in
-    subst (λ (ls : List NumberedLine). c.lines.takings ≡ c.args.takings.now + takings_in ls) all c.lines.invariant.asks
+    subst (λ (ls : List NumberedLine). c.lines.turns ≡ length (service_lines ls) + length (service_lines ls)) all c.lines.invariant.turns
 
 pub returns-clause-reads : goal.returns-clause-reads
 returns-clause-reads g c =
@@ -129,12 +117,4 @@ returns-clause-reads g c =
     let none = rw c.in_default.is at c.next.ensures.none in
     let all : before ≡ c.args.lines.now =
     sym (append-nil before) ∙ ap (λ (ls : List NumberedLine). before ++ ls) (sym none.0) ∙ c.lines.invariant.all in
-    subst (λ (ls : List NumberedLine). c.lines.readings ≡ c.args.readings.now + readings_in ls) all c.lines.invariant.reads
-
-pub returns-clause-most : goal.returns-clause-most
-returns-clause-most g c =
-    let before : List NumberedLine = c.lines.invariant.before in
-    let none = rw c.in_default.is at c.next.ensures.none in
-    let all : before ≡ c.args.lines.now =
-    sym (append-nil before) ∙ ap (λ (ls : List NumberedLine). before ++ ls) (sym none.0) ∙ c.lines.invariant.all in
-    subst (λ (ls : List NumberedLine). c.lines.takings ≤ c.args.takings.now + takings_in ls) all (omega (arith, c.lines.invariant.asks))
+    subst (λ (ls : List NumberedLine). c.lines.readings ≡ c.args.readings.now + length (service_lines ls)) all c.lines.invariant.reads

@@ -3,7 +3,8 @@ use Rattle.std.proofs.Common.{◌≡◌, List, ◌+◌, ◌++◌, length}
 use Rattle.chunk_words.specs.Sits.{Passes, known_by_pass}
 use Rattle.scenario_text.specs.declared.scenario.NumberedLine.{NumberedLine}
 use Rattle.thread_service.specs.Reading.{IsKnownWhole}
-use Rattle.thread_host.specs.Jobs.{KeepsLoans, TellsLines, readings_in, takings_in}
+use Rattle.run_model.specs.Lines.{service_lines}
+use Rattle.thread_host.specs.Jobs.{KeepsLoans, TellsLines}
 use Rattle.thread_host.proofs.job.service_job.Given as goal
 
 abbrev pub invariant-lines : goal.invariant-lines
@@ -15,8 +16,8 @@ invariant-lines g l = record {
   told : TellsLines g.N.HostName.setup g.N.HostName.first before (known_by_pass l.fn.pass) (known_by_pass l.pass)
       (g.O.Sink.taken l.fn.out) (g.O.Sink.taken l.out);
   stands : KeepsLoans (g.O.Sink.taken l.fn.out) (g.O.Sink.taken l.out);
-  asks : l.takings ≡ l.fn.takings + takings_in before;
-  reads : l.readings ≡ l.fn.readings + readings_in before;
+  turns : l.turns ≡ length (service_lines before) + length (service_lines before);
+  reads : l.readings ≡ l.fn.readings + length (service_lines before);
   steady : g.O.Sink.faults l.out ≡ g.O.Sink.faults l.fn.out;
   may : g.O.Sink.may_write l.out;
 }

@@ -2,10 +2,9 @@
 use Rattle.std.proofs.Common.{◌≡◌, ◌∙◌, ℕ, ◌<◌, List, [], ◌∷◌, ◌++◌, Some, slice_get, length, length-append, append_assoc, sym, ap, subst, arith}
 use Rattle.std.proofs.lemmas.Option.{slice_get-get_or}
 use Rattle.trace_base.specs.declared.policy.WriterSpec.{WriterSpec}
-use Rattle.chunk_plain.specs.Setup.{Setup}
+use Rattle.chunk_plain.specs.Setup.{Setup, no_writer}
 use Rattle.chunk_words.specs.declared.seats.WriterSeat.{WriterSeat}
 use Rattle.thread_writer.specs.declared.writer.TraceWriter.{TraceWriter}
-use Rattle.service_core.specs.Agreement.{no_writer}
 use Rattle.replay_host.proofs.MakingLemmas.{pushed_each}
 use Rattle.thread_host.specs.Making.{IsNewWriter}
 use Rattle.thread_host.proofs.Made.{seat_at, seat_below}

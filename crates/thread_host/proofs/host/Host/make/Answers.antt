@@ -24,7 +24,7 @@ use Rattle.thread_service.specs.Serving as serving
 use Rattle.thread_host.specs.Hosts.{IsServed}
 use Rattle.replay_model.specs.Flushes.{requests_in}
 use Rattle.thread_host.specs.Tally.{IsTally}
-use Rattle.thread_host.proofs.Made.{are_ready, is_served, nothing_collected, requests_fit}
+use Rattle.thread_host.proofs.Made.{are_ready, is_served, requests_fit}
 use Rattle.thread_host.proofs.host.Host.make.Goals as goal
 
 pub producer_specs-requires : goal.producer_specs-requires
@@ -169,7 +169,6 @@ returns c =
             let kept_len = scenario.producers.ok.0 in
             search (arith, rules, long, few, asked, kept_len);
         served = served;
-        collected = nothing_collected (setup_in table) scenario.lines (serving.view_in service) seen;
         few_buffers = (scenario_is_set_up scenario c.requires.scenario).few_buffers;
         pass = c.pass-pass.ensures.pass;
         known = subst (λ (v : ServiceView). AreKnownNotes v v.events) known tt;

@@ -27,7 +27,6 @@ returns-clause-host g c =
       specs = host.specs;
       producers = host.producers;
       served = host.served;
-      collected = host.collected;
       pass = c.answer_all.ensures.pass;
       known = subst IsKnownWhole (sym c.answer_all.ensures.known) host.known;
       tallied = host.tallied;

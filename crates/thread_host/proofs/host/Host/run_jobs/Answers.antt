@@ -1,9 +1,11 @@
 -- The service is there, and comes back as what the lock's type says of it.
-use Rattle.std.proofs.Common.{◌≡◌, ◌∙◌, ℕ, Option, IfSome, List, [], ◌∷◌, length, refl, sym, ap, subst}
+use Rattle.std.proofs.Common.{◌≡◌, ◌∙◌, Option, IfSome, OnErr, OnOk, List, [], ◌∷◌, length, refl, sym, ap, subst}
 use Rattle.std.specs.Option.{IsSomeAnd}
+use Rattle.trace_model.specs.Buffers.{Buffer}
 use Rattle.trace_model.specs.Calls.{Flushed}
 use Rattle.replay_model.specs.Flushes.{requests_in}
-use Rattle.chunk_plain.specs.Views.{taken_of}
+use Rattle.replay_model.specs.Played.{buffers_of}
+use Rattle.run_model.specs.Lines.{PlaysAll, PlaysSome}
 use Rattle.chunk_words.specs.Sits.{setup_in}
 use Rattle.scenario_text.specs.declared.scenario.NumberedLine.{NumberedLine}
 use Rattle.scenario_text.specs.Scenario.{parts_of}
@@ -78,11 +80,6 @@ run_named-service-requires-clause-ready g c κs within =
     subst (λ (ls : List NumberedLine). AreReadyFrom ls table 0 c.as_mut_slice.result.now) (sym c.by_writers-own.ensures)
     (subst (AreReadyFrom lines table 0) (sym c.as_mut_slice.ensures.value) (ready_from lines table c.args.writers.now.items c.requires.writers))
 
-pub run_named-service-requires-clause-untaken : goal.run_named-service-requires-clause-untaken
-run_named-service-requires-clause-untaken g c κs within =
-    held_of (λ (service : Service). (place : ℕ) → (taken_of (view_in service) place).count ≡ 0) c.args.self.now.service c.in-Some.service c.requires.untaken
-    (sym c.take.ensures.value ∙ c.in-Some.is)
-
 pub run_named-service-requires-clause-grows : goal.run_named-service-requires-clause-grows
 run_named-service-requires-clause-grows g c κs within = grows_none (setup_in c.args.self.now.table) c.args.scenario.now.lines (view_in c.in-Some.service)
 
@@ -110,7 +107,6 @@ returns-clause-host g c =
         in_order = grown_ordered setup c.args.scenario.now.lines (view_in before) (view_in after) back.grows served.in_order;
         kept = back.kept;
       };
-      collected = back.collected;
       pass = back.pass;
       known = back.known;
       tallied = back.tallied;
@@ -129,6 +125,32 @@ returns-clause-grows g c =
     let after = view_in c.run_named-service.result.0 in
     subst (λ (o : Option Service). IfSome o (λ before. Grows setup c.args.scenario.now.lines (view_in before) after)) (sym (sym c.take.ensures.value ∙ c.in-Some.is))
     c.run_named-service.ensures.grows
+
+pub returns-clause-lines : goal.returns-clause-lines
+returns-clause-lines g c =
+    let table = c.args.self.now.table in
+    let setup = setup_in table in
+    let lines = c.args.scenario.now.lines in
+    let after = view_in c.run_named-service.result.0 in
+    let told = c.run_named-service.result.2 in
+    let served = held_of (IsServed (parts_of c.args.scenario.now) table) c.args.self.now.service c.in-Some.service c.requires.host.served
+    (sym c.take.ensures.value ∙ c.in-Some.is) in
+    subst (λ (o : Option Service). OnOk told (IfSome o (λ before. PlaysAll setup (buffers_of (parts_of c.args.scenario.now) setup) lines (view_in before) after)))
+    (sym (sym c.take.ensures.value ∙ c.in-Some.is))
+    (subst (λ (first : List Buffer). OnOk told (PlaysAll setup first lines (view_in c.in-Some.service) after)) served.began c.run_named-service.ensures.lines)
+
+pub returns-clause-stopped : goal.returns-clause-stopped
+returns-clause-stopped g c =
+    let table = c.args.self.now.table in
+    let setup = setup_in table in
+    let lines = c.args.scenario.now.lines in
+    let after = view_in c.run_named-service.result.0 in
+    let told = c.run_named-service.result.2 in
+    let served = held_of (IsServed (parts_of c.args.scenario.now) table) c.args.self.now.service c.in-Some.service c.requires.host.served
+    (sym c.take.ensures.value ∙ c.in-Some.is) in
+    subst (λ (o : Option Service). OnErr told (IfSome o (λ before. PlaysSome setup (buffers_of (parts_of c.args.scenario.now) setup) lines (view_in before) after)))
+    (sym (sym c.take.ensures.value ∙ c.in-Some.is))
+    (subst (λ (first : List Buffer). OnErr told (PlaysSome setup first lines (view_in c.in-Some.service) after)) served.began c.run_named-service.ensures.stopped)
 
 pub returns-clause-played : goal.returns-clause-played
 returns-clause-played g c =

@@ -12,11 +12,11 @@ ghosts-run_named-N-HostName g a = record {
   first = first_of (setup_in a.table.now) (core_of a.service);
   start = view_in a.service;
   lines = a.lines.now;
-  all = a.takings.parts;
+  all = a.turns.parts;
 }
 
 abbrev pub ghosts-run_named-N-Ledger : goal.ghosts-run_named-N-Ledger
-ghosts-run_named-N-Ledger g a = record { name = a.takings.name; parts = a.takings.parts }
+ghosts-run_named-N-Ledger g a = record { name = a.turns.name; parts = a.turns.parts }
 
 abbrev pub ghosts-run_named-K-Ledger : goal.ghosts-run_named-K-Ledger
 ghosts-run_named-K-Ledger g a = record { name = a.readings.name; parts = a.readings.parts }

@@ -18,7 +18,6 @@ use Rattle.thread_service.specs.Serving as serving
 use Rattle.thread_service.specs.Settling.{TakesAllOut}
 use Rattle.thread_host.specs.Ending.{AreDoneSeats}
 use Rattle.thread_host.specs.Hosts.{IsServed}
-use Rattle.run_model.specs.Collected.{CollectedByLines}
 use Rattle.run_model.specs.Scraped.{has_part}
 use Rattle.thread_host.proofs.Parts.{takes_out_none}
 use Rattle.thread_service.specs.Reading.{IsKnownWhole}
@@ -28,7 +27,7 @@ use Rattle.thread_host.specs.declared.tally.Tally.{Tally}
 use Rattle.thread_host.proofs.Ordered.{hears_ordered, same_ordered}
 use Rattle.thread_host.proofs.ReadAnswers.{hears_asked, hears_letters, only_session}
 use Rattle.thread_host.proofs.Seating.{seat_at, served_on, whole_tale}
-use Rattle.thread_host.proofs.SettledAnswers.{answered_seat, heard_collected, settle_answers, settle_keeps, tale_still, tally_there}
+use Rattle.thread_host.proofs.SettledAnswers.{answered_seat, settle_answers, settle_keeps, tale_still, tally_there}
 use Rattle.thread_host.proofs.TallyLemmas.{sums_are}
 use Rattle.thread_host.proofs.host.Host.settle.Goals as goal
 
@@ -143,60 +142,57 @@ returns-clause-settled c scenario host played =
     let wrote : List SequenceCounts = c.end_writers.new.sequences in
     let long = c.end_writers.auto.sequences in
     let lent = ap (λ (xs : List SequenceCounts). length xs) c.deref_mut.ensures.value in
-    let ok = c.args.self.counts.sequences.ok.0 in
-    record {
-      laid = host.laid;
-      producers = host.producers;
-      served = served_on scenario table first last was settles.serves keeps
-          (settles.own ∙ ap (λ (v : ServiceView). v.commits) marked_view ∙ ap (λ (v : ServiceView). v.commits) letters.2)
-          (λ sequence. takes_out_none (setup_in table) (length (setup_in table).ranges) (serving.view_in marked) (serving.view_in last) settles.takes sequence
-          ∙ ap (λ (v : ServiceView). has_part sequence v.events) marked_view ∙ ap (λ (v : ServiceView). has_part sequence v.events) letters.2)
-          (ap asked_in letters_same ∙ hears_asked writers (serving.view_in first) heard_view hears)
-          (same_ordered heard_view.letters (serving.view_in last).letters letters_same (hears_ordered writers (serving.view_in first) heard_view hears was.in_order))
-          (settle_answers (setup_in table) writers (serving.core_of first) (serving.core_of mid) (serving.core_of c.read_answers.new.service)
-          (serving.core_of c.compare.new.self) (serving.core_of marked) (serving.core_of last) ends.only c.compare.ensures.only c.mark.ensures.only settles.keeps
-          (ap (λ (v : ServiceView). v.letters) ends.view) letters_same reads.kept was.kept);
-      many = ends.many;
-      done = subst (λ (xs : List SequenceCounts). AreDoneSeats scenario.lines table seats xs)
-          (sym (with_items_is c.args.self.counts.sequences wrote (omega (arith, long, lent, ok)))) done;
-      taken = λ place seat there.
-          let heard = ends.heard place seat there in
-          let inside = slice_get_within seats place seat there in
-          let many = ends.many in
-          let whole = whole_tale scenario.lines table (serving.view_in mid) (serving.desk_in mid) place seat _ (omega (arith, inside, many)) (done place seat there) heard in
-          let at_compare : At (serving.desk_in c.compare.new.self).told heard.number heard.tale =
-          subst (λ (told : List Tale). At told heard.number heard.tale) (sym desk_told) heard.told in
-          let taken = settles.taken heard.number heard.tale (subst (λ (d : Desk). At d.told heard.number heard.tale) (sym marks.desk_is) at_compare)
-          (tale_still (setup_in table) (serving.view_in mid) (serving.view_in marked) heard.tale looks_same whole) in
-          subst (λ (begun : List BegunChunk). length begun ≤ (taken_of (serving.view_in last) place).count) heard.begun_is
-          (subst (λ (p : ℕ). length heard.tale.begun ≤ (taken_of (serving.view_in last) p).count) heard.place_is taken);
-      stood = marks.world;
-      number = length (serving.desk_in c.compare.new.self).marks;
-      marked = subst (λ (d : Desk). At d.marks (length (serving.desk_in c.compare.new.self).marks) marks.world) (sym (settles.desk ∙ marks.desk_is))
-          (at_seam (serving.desk_in c.compare.new.self).marks [] marks.world);
-      reached = marks.reached;
-      completed = λ place seat there.
-          let heard = ends.heard place seat there in
-          subst (λ (begun : List BegunChunk). StaysCompleted begun (writer marks.world place).begun) heard.begun_is
-          (subst (λ (p : ℕ). StaysCompleted heard.tale.begun (writer marks.world p).begun) heard.place_is (marks.told heard.number heard.tale (subst (λ (told : List Tale). At told heard.number heard.tale) (sym desk_told) heard.told)));
-      taken_by = record {
-        collected = subst (λ (v : ServiceView). CollectedByLines (setup_in table) scenario.lines v) (sym (marks.view_is ∙ c.compare.ensures.view))
-            (heard_collected (setup_in table) scenario.lines writers (serving.view_in first) heard_view hears
-            (subst (λ (o : Option Service). IsSomeAnd o (λ service. CollectedByLines (setup_in table) scenario.lines (serving.view_in service)))
-            c.in-Some.is host.collected));
+    let ok = c.args.self.counts.sequences.ok.0 in (
+      record {
+        laid = host.laid;
+        producers = host.producers;
+        served = served_on scenario table first last was settles.serves keeps
+            (settles.own ∙ ap (λ (v : ServiceView). v.commits) marked_view ∙ ap (λ (v : ServiceView). v.commits) letters.2)
+            (λ sequence. takes_out_none (setup_in table) (length (setup_in table).ranges) (serving.view_in marked) (serving.view_in last) settles.takes sequence
+            ∙ ap (λ (v : ServiceView). has_part sequence v.events) marked_view ∙ ap (λ (v : ServiceView). has_part sequence v.events) letters.2)
+            (ap asked_in letters_same ∙ hears_asked writers (serving.view_in first) heard_view hears)
+            (same_ordered heard_view.letters (serving.view_in last).letters letters_same (hears_ordered writers (serving.view_in first) heard_view hears was.in_order))
+            (settle_answers (setup_in table) writers (serving.core_of first) (serving.core_of mid) (serving.core_of c.read_answers.new.service)
+            (serving.core_of c.compare.new.self) (serving.core_of marked) (serving.core_of last) ends.only c.compare.ensures.only c.mark.ensures.only settles.keeps
+            (ap (λ (v : ServiceView). v.letters) ends.view) letters_same reads.kept was.kept);
+        many = ends.many;
+        done = subst (λ (xs : List SequenceCounts). AreDoneSeats scenario.lines table seats xs)
+            (sym (with_items_is c.args.self.counts.sequences wrote (omega (arith, long, lent, ok)))) done;
+        taken = λ place seat there.
+            let heard = ends.heard place seat there in
+            let inside = slice_get_within seats place seat there in
+            let many = ends.many in
+            let whole = whole_tale scenario.lines table (serving.view_in mid) (serving.desk_in mid) place seat _ (omega (arith, inside, many)) (done place seat there) heard in
+            let at_compare : At (serving.desk_in c.compare.new.self).told heard.number heard.tale =
+            subst (λ (told : List Tale). At told heard.number heard.tale) (sym desk_told) heard.told in
+            let taken = settles.taken heard.number heard.tale (subst (λ (d : Desk). At d.told heard.number heard.tale) (sym marks.desk_is) at_compare)
+            (tale_still (setup_in table) (serving.view_in mid) (serving.view_in marked) heard.tale looks_same whole) in
+            subst (λ (begun : List BegunChunk). length begun ≤ (taken_of (serving.view_in last) place).count) heard.begun_is
+            (subst (λ (p : ℕ). length heard.tale.begun ≤ (taken_of (serving.view_in last) p).count) heard.place_is taken);
+        stood = marks.world;
+        number = length (serving.desk_in c.compare.new.self).marks;
+        marked = subst (λ (d : Desk). At d.marks (length (serving.desk_in c.compare.new.self).marks) marks.world) (sym (settles.desk ∙ marks.desk_is))
+            (at_seam (serving.desk_in c.compare.new.self).marks [] marks.world);
+        reached = marks.reached;
+        completed = λ place seat there.
+            let heard = ends.heard place seat there in
+            subst (λ (begun : List BegunChunk). StaysCompleted begun (writer marks.world place).begun) heard.begun_is
+            (subst (λ (p : ℕ). StaysCompleted heard.tale.begun (writer marks.world p).begun) heard.place_is (marks.told heard.number heard.tale (subst (λ (told : List Tale). At told heard.number heard.tale) (sym desk_told) heard.told)));
         settles = subst (λ (v : ServiceView). TakesAllOut (setup_in table) (length (setup_in table).ranges) v (serving.view_in last))
             (c.mark.ensures.view ∙ sym marks.view_is) settles.takes;
-      };
-      pass = c.compare.ensures.pass;
-      known = subst IsKnownWhole (sym c.compare.ensures.known) host.known;
-      few_buffers = host.few_buffers;
-      buffers = host.buffers;
-      sequences = host.sequences;
-      flushes = λ all.
-          let tally = reads.tally (requests_in scenario.lines)
-          (subst (λ (v : ServiceView). IsTally (requests_in scenario.lines) (length (setup_in table).writers) v.letters c.in-Some-tally.tally) (sym ends.view)
-          (tally_there scenario table c.args.self.service first c.args.self.tally c.in-Some-tally.tally host.tallied c.in-Some.is c.in-Some-tally.is)) in
-          ap (λ (v : _). v.items) c.into_sums.ensures
-          ∙ sums_are (requests_in scenario.lines) (length (setup_in table).writers) heard_view.letters c.read_answers.new.tally tally (sym (ap asked_in letters_same) ∙ all)
-          ∙ ap (run_sums writers) (sym letters_same);
-    }
+        pass = c.compare.ensures.pass;
+        known = subst IsKnownWhole (sym c.compare.ensures.known) host.known;
+        few_buffers = host.few_buffers;
+        buffers = host.buffers;
+        sequences = host.sequences;
+        flushes = λ all.
+            let tally = reads.tally (requests_in scenario.lines)
+            (subst (λ (v : ServiceView). IsTally (requests_in scenario.lines) (length (setup_in table).writers) v.letters c.in-Some-tally.tally) (sym ends.view)
+            (tally_there scenario table c.args.self.service first c.args.self.tally c.in-Some-tally.tally host.tallied c.in-Some.is c.in-Some-tally.is)) in
+            ap (λ (v : _). v.items) c.into_sums.ensures
+            ∙ sums_are (requests_in scenario.lines) (length (setup_in table).writers) heard_view.letters c.read_answers.new.tally tally (sym (ap asked_in letters_same) ∙ all)
+            ∙ ap (run_sums writers) (sym letters_same);
+      },
+      subst (λ (o : Option Service). IfSome o (λ service. IsHearing writers (serving.view_in service) marks.world.service)) (sym c.in-Some.is)
+          (subst (λ (v : ServiceView). IsHearing writers (serving.view_in first) v) (sym (marks.view_is ∙ c.compare.ensures.view)) hears),
+    )

@@ -1,14 +1,14 @@
-use Rattle.std.proofs.Common.{◌∙◌, ◌≤◌, List, length, take, rules, sym, ap, subst}
+use Rattle.std.proofs.Common.{◌∙◌, ◌≤◌, List, length, rules, inl, sym, ap, subst}
 use Rattle.chunk_plain.specs.Setup.{Setup}
 use Rattle.service_core.specs.Taking.{Takes, places_of}
 use Rattle.thread_service.specs.Serving.{core_of, view_in}
 use Rattle.chunk_plain.specs.Views.{Letter, asked_in}
 use Rattle.session_core.specs.Sessions.{SessionValue}
 use Rattle.replay_model.specs.Flushes.{requests_in}
-use Rattle.run_model.specs.Collected.{taken_by_lines}
 use Rattle.thread_host.specs.Tally.{IsTally}
-use Rattle.thread_host.proofs.Collected.{asker_may, helper_takes}
+use Rattle.thread_host.proofs.Collected.{asker_may}
 use Rattle.thread_host.proofs.Growing.{collect_grows}
+use Rattle.thread_host.proofs.Turning.{turns_between}
 use Rattle.thread_host.proofs.Hosting.{collect_own}
 use Rattle.thread_host.proofs.KeptAnswers.{answers_same}
 use Rattle.thread_host.proofs.locked.Locked.collect.Goals as goal
@@ -28,12 +28,16 @@ invariant_of-self g c = record {
       (asker_may g.N.HostName.setup g.N.HostName.lines c.args.producer c.requires.asked)
       (subst (λ (s : Setup). Takes s (places_of c.args.producer 0 s.writers) c.collect.result old new) setup_is c.collect.ensures.takes)
       c.args.self.now.grows;
-  bounded =
+  played =
       let setup_is = c.requires.table.setup_is in
       let old = view_in c.args.self.now.service in let new = view_in c.collect.new.self in
-      helper_takes g.N.HostName.setup g.N.HostName.lines (take c.args.self.now.book.total (taken_by_lines g.N.HostName.lines)) c.args.producer c.collect.result old new
-      c.requires.asked (subst (λ (s : Setup). Takes s (places_of c.args.producer 0 s.writers) c.collect.result old new) setup_is c.collect.ensures.takes)
-      c.args.self.now.bounded;
+      turns_between g.N.HostName.setup g.N.HostName.first g.N.HostName.lines c.args.self.now.book.total g.N.HostName.start old new
+      (inl (
+        c.args.producer,
+        c.collect.result,
+        c.requires.asked,
+        subst (λ (s : Setup). Takes s (places_of c.args.producer 0 s.writers) c.collect.result old new) setup_is c.collect.ensures.takes,
+      )) c.args.self.now.played;
   started = ap (λ (s : SessionValue). s.state) c.collect.ensures.keeps.fields.session ∙ c.args.self.now.started;
   few = subst (λ (l : List Letter). asked_in l ≤ requests_in g.N.HostName.lines) (sym c.collect.ensures.letters) c.args.self.now.few;
   tallied = subst (λ (l : List Letter). IsTally (requests_in g.N.HostName.lines) (length g.N.HostName.setup.writers) l c.args.self.now.tally)

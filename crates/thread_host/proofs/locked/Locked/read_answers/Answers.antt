@@ -1,4 +1,4 @@
-use Rattle.std.proofs.Common.{rules, ◌∙◌, ℕ, List, length, map, take, sym, ap, subst, arith}
+use Rattle.std.proofs.Common.{rules, ◌∙◌, ℕ, List, length, map, sym, ap, subst, arith}
 use Rattle.chunk_plain.specs.Setup.{Setup}
 use Rattle.chunk_plain.specs.Views.{ServiceView}
 use Rattle.trace_buffer.specs.declared.answers.BufferSpec.{BufferSpec}
@@ -8,10 +8,9 @@ use Rattle.replay_model.specs.Flushes.{requests_in}
 use Rattle.thread_service.specs.Serving.{core_of, view_in}
 use Rattle.thread_host.specs.Growing.{IsHearing}
 use Rattle.thread_host.specs.Tally.{IsTally, KeepsAnswers}
-use Rattle.run_model.specs.Collected.{taken_by_lines}
-use Rattle.thread_host.proofs.Collected.{taken_still}
 use Rattle.thread_host.proofs.Growing.{hear_grows}
 use Rattle.thread_host.proofs.ReadAnswers.{hears_asked, hears_letters, taking_serving}
+use Rattle.thread_host.proofs.Turning.{turns_heard}
 use Rattle.thread_host.proofs.locked.Locked.read_answers.Goals as goal
 
 pub read_answers-requires-clause-tally : goal.read_answers-requires-clause-tally
@@ -43,8 +42,8 @@ invariant_of-self g c =
       began = ap (λ (specs : List BufferSpec). first_buffers g.N.HostName.setup 1 (map spec_value specs)) reads.keeps.specs ∙ c.args.self.now.began;
       own = ap (λ (v : ServiceView). v.commits) (hears_letters many (view_in old) (view_in new) hears).2 ∙ c.args.self.now.own;
       grows = hear_grows g.N.HostName.setup g.N.HostName.lines g.N.HostName.start (view_in old) (view_in new) hears c.args.self.now.grows;
-      bounded = taken_still g.N.HostName.setup g.N.HostName.lines (take c.args.self.now.book.total (taken_by_lines g.N.HostName.lines)) (view_in old) (view_in new)
-          (ap (λ (v : ServiceView). v.taken) (hears_letters many (view_in old) (view_in new) hears).2) c.args.self.now.bounded;
+      played = turns_heard g.N.HostName.setup g.N.HostName.first g.N.HostName.lines many c.args.self.now.book.total g.N.HostName.start (view_in old) (view_in new) hears
+          c.args.self.now.played;
       started = reads.session.state ∙ c.args.self.now.started;
       few = let asked = hears_asked many (view_in old) (view_in new) hears in let few = c.args.self.now.few in omega (arith, asked, few);
       tallied = subst (λ (s : Setup). IsTally (requests_in g.N.HostName.lines) (length s.writers) (view_in new).letters c.read_answers.new.tally) setup_is

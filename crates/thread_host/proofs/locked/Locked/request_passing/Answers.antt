@@ -1,4 +1,4 @@
-use Rattle.std.proofs.Common.{rules, ◌≡◌, ◌∙◌, ◌+◌, length, take, sym, ap, subst, arith}
+use Rattle.std.proofs.Common.{rules, ◌≡◌, ◌∙◌, ◌+◌, ℕ, length, sym, ap, subst, arith}
 use Rattle.chunk_plain.specs.Setup.{Setup}
 use Rattle.chunk_plain.specs.Views.{ServiceView, asked_in}
 use Rattle.chunk_words.proofs.MailSteps.{asked_more}
@@ -13,13 +13,13 @@ use Rattle.thread_service.specs.Requesting.{PassRequests}
 use Rattle.thread_service.specs.Serving.{core_of, view_in}
 use Rattle.thread_host.specs.Jobs.{TellsLine}
 use Rattle.thread_host.specs.Tally.{IsTally, KeepsAnswers}
-use Rattle.run_model.specs.Collected.{taken_by_lines}
-use Rattle.thread_host.proofs.Collected.{taken_still}
+use Rattle.thread_host.specs.Turns.{IsNext}
 use Rattle.thread_host.proofs.Growing.{request_grows}
 use Rattle.thread_host.proofs.KeptAnswers.{answers_asked}
 use Rattle.thread_host.proofs.ReadAnswers.{requested_view}
 use Rattle.thread_host.proofs.TallyLemmas.{tally_asked}
 use Rattle.thread_host.proofs.Telling.{request_tells}
+use Rattle.thread_host.proofs.Turning.{turns_line}
 use Rattle.thread_host.proofs.locked.Locked.request_passing.Goals as goal
 
 pub request_passing-requires-clause-fewer : goal.request_passing-requires-clause-fewer
@@ -52,6 +52,7 @@ returns g c =
           (request_tells (setup_in c.args.table.now) (core_of old) g.N.HostName.first passed pass taken
           (ap (λ (setup : Setup). first_of setup (core_of old)) setup_is ∙ c.args.self.now.began) calls.passes asked);
       desk = calls.desk;
+      turns = let is = c.turns.view_is in let same = c.audit.ensures.amount in let more = c.add.ensures.amount in omega (arith, is, same, more);
     }
 
 pub invariant_of-self : goal.invariant_of-self
@@ -67,8 +68,13 @@ invariant_of-self g c =
       began = search rules;
       own = ap (λ (v : ServiceView). v.commits) asks ∙ c.args.self.now.own;
       grows = request_grows g.N.HostName.setup g.N.HostName.lines g.N.HostName.start (view_in old) (view_in new) asks c.args.self.now.grows;
-      bounded = taken_still g.N.HostName.setup g.N.HostName.lines (take c.args.self.now.book.total (taken_by_lines g.N.HostName.lines)) (view_in old) (view_in new)
-          (ap (λ (v : ServiceView). v.taken) asks) c.args.self.now.bounded;
+      played =
+          let same = c.audit.ensures.whole (c.turns.invariant ∙ c.requires.ledger.0) in
+          let total = c.audit.ensures.total in let more = c.add.ensures.total in
+          turns_line g.N.HostName.setup g.N.HostName.first g.N.HostName.lines c.args.self.now.book.total c.add.new.self.total line.Request g.N.HostName.start
+          (view_in old) (view_in new)
+          (subst (λ (n : ℕ). IsNext g.N.HostName.lines n line.Request) (sym c.turns.view_is ∙ same) c.requires.next) (omega (arith, total, more)) asks
+          c.args.self.now.played;
       started = ap (λ (s : SessionValue). s.state) session ∙ c.args.self.now.started;
       few =
           let more = ap (λ (v : ServiceView). asked_in v.letters) asks ∙ asked_more (view_in old).letters in

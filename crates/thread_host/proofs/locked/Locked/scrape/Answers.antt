@@ -1,16 +1,17 @@
-use Rattle.std.proofs.Common.{◌≡◌, ◌∙◌, ◌≤◌, ℕ, suc, List, length, take, rules, sym, ap, subst, arith}
+use Rattle.std.proofs.Common.{◌∙◌, ◌≤◌, ℕ, List, length, rules, sym, ap, subst, arith}
 use Rattle.chunk_plain.specs.Setup.{Setup}
 use Rattle.service_core.specs.Scraping.{TakesAndScrapes}
 use Rattle.thread_service.specs.Serving.{core_of, view_in}
-use Rattle.chunk_plain.specs.Views.{At, Letter, asked_in}
+use Rattle.chunk_plain.specs.Views.{Letter, asked_in}
 use Rattle.session_core.specs.Sessions.{SessionValue}
 use Rattle.replay_model.specs.Flushes.{requests_in}
-use Rattle.run_model.specs.Collected.{TakenAtMost, taken_by_lines}
+use Rattle.scenario_text.specs.declared.scenario.LineKind.TheVariants as line
 use Rattle.thread_host.specs.Tally.{IsTally}
-use Rattle.thread_host.proofs.Collected.{line_scrapes}
+use Rattle.thread_host.specs.Turns.{IsNext}
 use Rattle.thread_host.proofs.Growing.{scrape_grows}
 use Rattle.thread_host.proofs.Hosting.{scrape_own}
 use Rattle.thread_host.proofs.KeptAnswers.{answers_same}
+use Rattle.thread_host.proofs.Turning.{turns_line}
 use Rattle.thread_host.proofs.locked.Locked.scrape.Goals as goal
 
 pub invariant_of-self : goal.invariant_of-self
@@ -27,18 +28,15 @@ invariant_of-self g c = record {
       scrape_grows g.N.HostName.setup g.N.HostName.lines c.args.producer c.scrape.result start old new c.requires.line
       (subst (λ (s : Setup). TakesAndScrapes s c.args.producer c.scrape.result old new) setup_is c.scrape.ensures.scrapes)
       c.args.self.now.grows;
-  bounded =
+  played =
       let setup_is = c.requires.table.setup_is in
       let old = view_in c.args.self.now.service in let new = view_in c.scrape.new.self in
-      let lines = taken_by_lines g.N.HostName.lines in
-      let same = c.audit.ensures.whole (c.takings.invariant ∙ c.requires.ledger.0) in
+      let same = c.audit.ensures.whole (c.turns.invariant ∙ c.requires.ledger.0) in
       let total = c.audit.ensures.total in let more = c.add.ensures.total in
-      let one : c.add.new.self.total ≡ suc c.args.self.now.book.total = omega (arith, total, more) in
-      subst (λ (n : ℕ). TakenAtMost g.N.HostName.setup g.N.HostName.lines (take n lines) new) (sym one)
-      (line_scrapes g.N.HostName.setup g.N.HostName.lines lines c.args.self.now.book.total c.args.producer c.scrape.result old new
-      (subst (λ (n : ℕ). At lines n c.args.producer) (sym c.takings.view_is ∙ same) c.requires.next)
-      (subst (λ (s : Setup). TakesAndScrapes s c.args.producer c.scrape.result old new) setup_is c.scrape.ensures.scrapes)
-      c.args.self.now.bounded);
+      turns_line g.N.HostName.setup g.N.HostName.first g.N.HostName.lines c.args.self.now.book.total c.add.new.self.total (line.Scrape c.args.producer)
+      g.N.HostName.start old new
+      (subst (λ (n : ℕ). IsNext g.N.HostName.lines n (line.Scrape c.args.producer)) (sym c.turns.view_is ∙ same) c.requires.next) (omega (arith, total, more))
+      (c.scrape.result, subst (λ (s : Setup). TakesAndScrapes s c.args.producer c.scrape.result old new) setup_is c.scrape.ensures.scrapes) c.args.self.now.played;
   started = ap (λ (s : SessionValue). s.state) c.scrape.ensures.keeps.fields.session ∙ c.args.self.now.started;
   few = subst (λ (l : List Letter). asked_in l ≤ requests_in g.N.HostName.lines) (sym c.scrape.ensures.letters) c.args.self.now.few;
   tallied = subst (λ (l : List Letter). IsTally (requests_in g.N.HostName.lines) (length g.N.HostName.setup.writers) l c.args.self.now.tally)
