@@ -60,6 +60,7 @@ pub fn let_arrive(alloc: Global, count: u32) -> Option<u32> {
     let sequences = [SequenceSpec {
         sequence: SEQUENCE,
         payload: PAYLOAD,
+        from: 0,
     }];
     let Ok(mut buffer) = TraceBuffer::make(alloc, spec, &sequences) else {
         return None;

@@ -1,2 +1,3 @@
 pub mod NothingTaken
+pub mod SameWriters
 pub mod TestFragments

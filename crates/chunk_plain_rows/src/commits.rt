@@ -74,6 +74,7 @@ fn played_round(alloc: Global, payload: &[u8], out: &mut MemSink) -> Result<Opti
         producer: 1,
         buffer: 1,
         policy: WriterPolicy::Drops,
+        from: 7,
     }];
     let buffers = [BufferSpec {
         size: 65536,
@@ -83,7 +84,7 @@ fn played_round(alloc: Global, payload: &[u8], out: &mut MemSink) -> Result<Opti
     let mut service = ServiceCore::make(alloc, &buffers, &producers, &writers, seat)?;
     let image = Image {
         sequence: 2,
-        chunk_id: 0,
+        chunk_id: 7,
         count: 1,
         flags: 0,
         payload,

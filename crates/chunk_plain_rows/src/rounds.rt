@@ -1,7 +1,7 @@
 //! Rounds of the calls, by code that knows nothing but the trait: a chunk that is filled and taken,
 //! the refusals of `take`, and a chunk that is scraped while it is written.
 ghost use Rattle.std.specs.Prelude.{◌≡◌, ℕ, ◌+◌, ◌-◌, ◌<◌, ◌≤◌, [], length, vec_len, IsTrue, IfSome, IfErr};
-ghost use Rattle.chunk_plain.specs.declared.tokens.TheConstants.{MAX_HELD, ID_LIMIT};
+ghost use Rattle.chunk_plain.specs.declared.tokens.TheConstants.{MAX_HELD, POSITION_LIMIT};
 ghost use Rattle.chunk_plain.specs.Setup.{producer_of, IsChunkOf, spot, id_at};
 ghost use Rattle.chunk_plain.specs.Payload.{byte_in};
 ghost use Rattle.chunk_plain.specs.Views.{taken_of};
@@ -20,7 +20,7 @@ use trace_base::policy::{WriterPolicy, WriterSpec};
 fn put_fragments(held: &mut Held)
     requires { 5 ≤ vec_len held.old.body.payload }
     ensures chunk { held.new.chunk ≡ held.old.chunk }
-    ensures id { held.new.id ≡ held.old.id }
+    ensures position { held.new.position ≡ held.old.position }
     ensures size { vec_len held.new.body.payload ≡ vec_len held.old.body.payload }
     ensures first { byte_in held.new.body.payload.items 0 ≡ 2 }
 {
@@ -43,12 +43,13 @@ pub(crate) fn write<W: Words>(
     requires chunk { IsChunkOf (W.means.setup table.old) (producer_of (W.means.setup table.old) (W.means.place seat.old)) chunk }
     requires few { held_count (W.means.view table.old seat.old).begun < MAX_HELD }
     requires id { id ≡ id_at (W.means.setup table.old) (W.means.place seat.old) (length (W.means.view table.old seat.old).begun) }
-    requires id_fits { id < ID_LIMIT }
+    requires few_begun { length (W.means.view table.old seat.old).begun < POSITION_LIMIT }
     ensures chunk { IfSome result (λ held. held.chunk ≡ chunk) }
-    ensures holding { IfSome result (λ held. IsHolding (W.means.view table.new seat.new) held.chunk held.id) }
+    ensures holding { IfSome result (λ held. IsHolding (W.means.view table.new seat.new) held.chunk held.position) }
     ensures size { IfSome result (λ held. vec_len held.body.payload ≡ (spot (W.means.setup table.old) held.chunk).payload_size) }
-    ensures sealed { IfSome result (λ held. KeepsSealed (W.means.view table.new seat.new) held.id held.body.payload.items) }
-    ensures begun { IfSome result (λ held. length (W.means.view table.new seat.new).begun ≡ id + 1) }
+    ensures sealed { IfSome result (λ held. KeepsSealed (W.means.view table.new seat.new) held.position held.body.payload.items) }
+    ensures begun { IfSome result (λ held. length (W.means.view table.new seat.new).begun
+        ≡ length (W.means.view table.old seat.old).begun + 1) }
     ensures step { IsWriterStep W.means table.old seat.old table.new seat.new }
 {
     let claimed = table.claim_try(seat, chunk)?;
@@ -62,9 +63,9 @@ pub(crate) fn write<W: Words>(
 /// Publishes the whole payload and completes the chunk.
 pub(crate) fn finish<W: Words>(table: &mut W, seat: &mut W::Writer, mut held: Held)
     requires seat { W.means.sits table.old seat.old }
-    requires holding { IsHolding (W.means.view table.old seat.old) held.chunk held.id }
+    requires holding { IsHolding (W.means.view table.old seat.old) held.chunk held.position }
     requires size { vec_len held.body.payload ≡ (spot (W.means.setup table.old) held.chunk).payload_size }
-    requires sealed { KeepsSealed (W.means.view table.old seat.old) held.id held.body.payload.items }
+    requires sealed { KeepsSealed (W.means.view table.old seat.old) held.position held.body.payload.items }
     ensures begun { length (W.means.view table.new seat.new).begun ≡ length (W.means.view table.old seat.old).begun }
     ensures step { IsWriterStep W.means table.old seat.old table.new seat.new }
 {
@@ -79,8 +80,9 @@ fn fill<W: Words>(table: &mut W, seat: &mut W::Writer, chunk: u32, id: u32) -> b
     requires chunk { IsChunkOf (W.means.setup table.old) (producer_of (W.means.setup table.old) (W.means.place seat.old)) chunk }
     requires few { held_count (W.means.view table.old seat.old).begun < MAX_HELD }
     requires id { id ≡ id_at (W.means.setup table.old) (W.means.place seat.old) (length (W.means.view table.old seat.old).begun) }
-    requires id_fits { id < ID_LIMIT }
-    ensures begun { IsTrue result → length (W.means.view table.new seat.new).begun ≡ id + 1 }
+    requires few_begun { length (W.means.view table.old seat.old).begun < POSITION_LIMIT }
+    ensures begun { IsTrue result → length (W.means.view table.new seat.new).begun
+        ≡ length (W.means.view table.old seat.old).begun + 1 }
     ensures step { IsWriterStep W.means table.old seat.old table.new seat.new }
 {
     let Some(held) = write(table, seat, chunk, id) else {
@@ -129,28 +131,30 @@ fn first_five(bytes: &[u8]) -> [u8; 5]
     [bytes[0], bytes[1], bytes[2], bytes[3], bytes[4]]
 }
 
-/// The first writer writes, the service scrapes, the writer finishes and the service takes the chunk.
+/// The first writer writes under its first id, the service scrapes, the writer finishes and the service takes the chunk.
 fn scrape_and_take<W: Words>(
     table: &mut W,
     seat: &mut W::Writer,
     service: &mut W::Service,
     chunk: u32,
+    id: u32,
     into: &mut [u8],
 ) -> Option<Scraped>
     requires seat { W.means.sits table.old seat.old }
     requires place { W.means.place seat.old ≡ 0 }
     requires chunk { IsChunkOf (W.means.setup table.old) (producer_of (W.means.setup table.old) (W.means.place seat.old)) chunk }
     requires begun { (W.means.view table.old seat.old).begun ≡ [] }
+    requires id { id ≡ id_at (W.means.setup table.old) 0 0 }
     requires service { W.means.serves table.old service.old }
     requires none_taken { (taken_of (W.means.service_view table.old service.old) 0).count ≡ 0 }
     requires none_out { (W.means.service_view table.old service.old).reading ≡ [] }
     requires size { length into.old ≡ (spot (W.means.setup table.old) chunk).payload_size }
 {
-    let held = write(table, seat, chunk, 0)?;
+    let held = write(table, seat, chunk, id)?;
     let seen = table.look(service, chunk);
     table.load(service, chunk, into);
     finish(table, seat, held);
-    let Ok(taken) = table.take(service, chunk, 1, 0) else {
+    let Ok(taken) = table.take(service, chunk, 1, id) else {
         return None;
     };
     let scraped = Scraped {
@@ -166,6 +170,7 @@ static SPEC: WriterSpec = WriterSpec {
     producer: 1,
     buffer: 1,
     policy: WriterPolicy::Drops,
+    from: 9,
 };
 
 /// Two writers fill a chunk each; then the service asks for a chunk, and answers what it has.
@@ -180,13 +185,13 @@ fn answer_to(alloc: Global, chunk: u32, writer: u16) -> Result<Option<u16>, Fail
     let (mut table, _seats, mut service) = PlainTable::make(alloc, &producers, &writers)?;
     let mut first = PlainWriter { place: 0 };
     let mut second = PlainWriter { place: 1 };
-    if !fill(&mut table, &mut first, 0, 0) || !fill(&mut table, &mut second, 1, 0) {
+    if !fill(&mut table, &mut first, 0, 9) || !fill(&mut table, &mut second, 1, 9) {
         return Ok(None);
     }
     if table.look(&mut service, 0).word != PageWord(0x3_5000_000f) {
         return Ok(None);
     }
-    Ok(drain(&mut table, &mut service, chunk, writer, 0).ok())
+    Ok(drain(&mut table, &mut service, chunk, writer, 9).ok())
 }
 
 #[test]
@@ -206,7 +211,7 @@ fn scrape_one(alloc: Global) -> Result<Option<Scraped>, Fail> {
     let (mut table, _seats, mut service) = PlainTable::make(alloc, &producers, &writers)?;
     let mut first = PlainWriter { place: 0 };
     let mut copy = vec![in alloc; 0; geometry.payload_size() as usize]?;
-    Ok(scrape_and_take(&mut table, &mut first, &mut service, 0, &mut copy))
+    Ok(scrape_and_take(&mut table, &mut first, &mut service, 0, 9, &mut copy))
 }
 
 #[test]

@@ -2,7 +2,7 @@
 //! scraped and read while it is written, and comes whole later; then the service says what it knows,
 //! and its session is stopped.
 ghost use Rattle.std.specs.Prelude.{◌≡◌, ℕ, ◌<◌, ◌≤◌, false, [], length};
-ghost use Rattle.chunk_plain.specs.Setup.{producer_of, IsChunkOf};
+ghost use Rattle.chunk_plain.specs.Setup.{producer_of, IsChunkOf, id_at};
 ghost use Rattle.service_core.specs.Agreement.{IsAgreeing, ServiceAgrees, is_closed};
 
 use crate::rounds::{finish, write};
@@ -52,12 +52,16 @@ fn ended<S>(service: &mut ServiceCore<S>) -> End
     }
 }
 
-/// The service scrapes and reads while the writer holds its first chunk; then the chunk is completed,
+/// The greatest id, behind which ids begin anew.
+const LAST_ID: u32 = 4_294_967_295;
+
+/// The service scrapes and reads while the writer holds its first chunk, which has this id; then the chunk is completed,
 /// collected and read, and the service is asked and stopped.
 fn play<W: Words, O: Sink>(
     service: &mut ServiceCore<W::Service>,
     table: &mut W,
     seat: &mut W::Writer,
+    id: u32,
     out: &mut O,
 ) -> Option<(Round, End)>
     requires serves { W.means.serves table.old service.old.seat }
@@ -69,9 +73,10 @@ fn play<W: Words, O: Sink>(
     requires seat { W.means.sits table.old seat.old }
     requires chunk { IsChunkOf (W.means.setup table.old) (producer_of (W.means.setup table.old) (W.means.place seat.old)) 0 }
     requires begun { (W.means.view table.old seat.old).begun ≡ [] }
+    requires id { id ≡ id_at (W.means.setup table.old) (W.means.place seat.old) 0 }
     requires sink { (sink : O) → O.may_write sink }
 {
-    let held = write(table, seat, 0, 0)?;
+    let held = write(table, seat, 0, id)?;
     let taken = service.scrape(table, 1);
     let delivered = service.read_buffer(table, 1, 5, out).ok();
     finish(table, seat, held);
@@ -93,6 +98,7 @@ fn played_round(alloc: Global, out: &mut MemSink) -> Result<Option<(Round, End)>
         producer: 1,
         buffer: 1,
         policy: WriterPolicy::Drops,
+        from: LAST_ID,
     }];
     let buffers = [BufferSpec {
         size: 4096,
@@ -101,7 +107,7 @@ fn played_round(alloc: Global, out: &mut MemSink) -> Result<Option<(Round, End)>
     let (mut table, _seats, seat) = PlainTable::make(alloc, &producers, &writers)?;
     let mut service = ServiceCore::make(alloc, &buffers, &producers, &writers, seat)?;
     let mut first = PlainWriter { place: 0 };
-    Ok(play(&mut service, &mut table, &mut first, out))
+    Ok(play(&mut service, &mut table, &mut first, LAST_ID, out))
 }
 
 #[test]

@@ -4,7 +4,7 @@ use Rattle.trace_base.specs.declared.policy.WriterSpec.{WriterSpec}
 use Rattle.page_geometry.specs.Sizes.{payload_size, chunk_size}
 use Rattle.page_geometry.specs.declared.geometry.Geometry.{Geometry}
 use Rattle.chunk_plain.specs.declared.setup.ProducerSpec.{ProducerSpec}
-use Rattle.chunk_plain.specs.Setup.{Setup, IsLaid, HasProducer, IsChunkOf, producer_of, size_of, spot}
+use Rattle.chunk_plain.specs.Setup.{Setup, IsLaid, HasProducer, IsChunkOf, producer_of, from_of, size_of, spot}
 use Rattle.chunk_plain.specs.Laying.{setup_of}
 use Rattle.chunk_plain.specs.Views.{ServiceView, taken_of}
 use Rattle.chunk_plain.specs.Plain.{first_world}
@@ -27,6 +27,11 @@ first_producer : (geometry : Geometry) (place : ℕ) → place < 2 → producer_
 first_producer geometry zero below = refl
 first_producer geometry (suc zero) below = refl
 first_producer geometry (suc (suc place)) below = absurd (omega arith)
+
+first_from : (geometry : Geometry) (place : ℕ) → place < 2 → from_of (page_setup geometry page_spec) place ≡ 4294967000
+first_from geometry zero below = refl
+first_from geometry (suc zero) below = refl
+first_from geometry (suc (suc place)) below = absurd (omega arith)
 
 first_spec : (geometry : Geometry) (place : ℕ) → place < 2 → slice_get (page_setup geometry page_spec).writers place ≡ Some page_spec
 first_spec geometry zero below = refl
@@ -53,6 +58,7 @@ one_page table geometry is size many =
       specs = λ place below. ap (λ (s : Setup). slice_get s.writers place) is ∙ first_spec geometry place below;
       producer = subst (λ (s : Setup). HasProducer s 1) (sym is) (record { least = omega arith; most = omega arith });
       producers = λ place below. ap (λ (s : Setup). producer_of s place) is ∙ first_producer geometry place below;
+      froms = λ place below. ap (λ (s : Setup). from_of s place) is ∙ first_from geometry place below;
       sizes = sizes;
     }
 

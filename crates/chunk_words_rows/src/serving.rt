@@ -1,15 +1,16 @@
 //! A writer on a thread of its own fills chunks, and beside it the service takes them.
 ghost use Rattle.std.specs.Prelude.{◌≡◌, ℕ, ◌+◌, ◌<◌, ◌≤◌, length};
-ghost use Rattle.chunk_plain.specs.declared.tokens.TheConstants.{ID_LIMIT};
+ghost use Rattle.chunk_plain.specs.declared.tokens.TheConstants.{POSITION_LIMIT};
 ghost use Rattle.chunk_words.specs.Sits.{Attends};
 ghost use Rattle.chunk_words_rows.specs.Fresh.{IsFreshSeat};
 ghost use Rattle.chunk_words_rows.specs.Page.{IsOnePage, HasTaken};
 
-use crate::threads::{both, fill_page, make};
+use crate::threads::{FROM, both, fill_page, make};
 use chunk_words::{HostTable, ServiceSeat, WriterSeat};
 use page_geometry::PageWord;
 use std::test::Fail;
 use std::thread::{Threads, join};
+use trace_base::ids::id_of;
 
 /// The service's way with one chunk: looks at it and loads it, and takes and releases it if it is the
 /// first writer's next. Answers how many were taken of that writer.
@@ -18,7 +19,7 @@ fn serve(host: &HostTable, seat: &mut ServiceSeat, chunk: u32, next: u32, into: 
     requires seat { Attends host.now seat.old }
     requires chunk { chunk < 14 }
     requires next { HasTaken next seat.old }
-    requires few { next < ID_LIMIT }
+    requires few { next < POSITION_LIMIT }
     requires size { length into.old ≡ 284 }
     ensures seat { Attends host.now seat.new }
     ensures next { HasTaken result seat.new }
@@ -27,7 +28,7 @@ fn serve(host: &HostTable, seat: &mut ServiceSeat, chunk: u32, next: u32, into: 
 {
     host.look(seat, chunk);
     host.load(seat, chunk, into);
-    match host.take(seat, chunk, 1, next) {
+    match host.take(seat, chunk, 1, id_of(FROM, next)) {
         Ok(taken) => {
             host.release(seat, taken);
             next + 1
@@ -46,7 +47,7 @@ fn serve_page(
     requires page { IsOnePage host.now }
     requires seat { Attends host.now seat }
     requires next { HasTaken first seat }
-    requires few { first + rounds < ID_LIMIT }
+    requires few { first + rounds < POSITION_LIMIT }
     ensures seat { Attends host.now result.1 }
     ensures next { HasTaken result.0 result.1 }
     ensures most { result.0 ≤ first + rounds }
@@ -89,7 +90,7 @@ fn the_service_takes_what_a_writer_fills_meanwhile(rt: HostRuntime) -> Result<()
         return Err(Fail::new("a writer has no seat"));
     };
     let (filled, (taken, service)) = on_both_sides(&rt, &host, writer, service);
-    // What is left lies in the page, and its chunks are taken in the order of their ids: one at least
+    // What is left lies in the page, and its chunks are taken in the order of their positions: one at least
     // in each turn.
     let (taken, mut service) = serve_page(&host, service, taken, 14 * 14);
     assert_eq!(rt; taken, filled);

@@ -1,7 +1,7 @@
 //! Writers on threads of their own: each asks for every chunk of one page, and fills what it wins.
 ghost use Rattle.std.specs.Prelude.{◌≡◌, ℕ, ◌+◌, ◌<◌, ◌≤◌, length, IfOk, IfSome};
-ghost use Rattle.chunk_plain.specs.declared.tokens.TheConstants.{ID_LIMIT};
-ghost use Rattle.chunk_plain.specs.Setup.{producer_of, IsChunkOf};
+ghost use Rattle.chunk_plain.specs.declared.tokens.TheConstants.{POSITION_LIMIT};
+ghost use Rattle.chunk_plain.specs.Setup.{from_of, producer_of, IsChunkOf};
 ghost use Rattle.chunk_plain.specs.Views.{newcomer};
 ghost use Rattle.chunk_plain.specs.Owned.{held_count};
 ghost use Rattle.chunk_plain.specs.Meaning.{IsWriterStep};
@@ -16,42 +16,50 @@ use page_geometry::{Geometry, PageWord};
 use std::alloc::Global;
 use std::test::Fail;
 use std::thread::{Threads, join};
+use trace_base::ids::id_of;
 use trace_base::policy::{WriterPolicy, WriterSpec};
 
-/// A writer's way with one chunk: fills it, unless it was claimed. Answers the writer's next id.
-fn fill<W: Words>(table: &mut W, seat: &mut W::Writer, chunk: u32, id: u32) -> u32
+/// The id of each writer's first chunk. Few chunks later ids begin anew at 0.
+pub(crate) const FROM: u32 = 4_294_967_000;
+
+/// A writer's way with one chunk: fills it, unless it was claimed. Answers the writer's next
+/// position.
+fn fill<W: Words>(table: &mut W, seat: &mut W::Writer, chunk: u32, from: u32, next: u32) -> u32
     requires seat { W.means.sits table.old seat.old }
     requires chunk { IsChunkOf (W.means.setup table.old) (producer_of (W.means.setup table.old) (W.means.place seat.old)) chunk }
     requires none_held { held_count (W.means.view table.old seat.old).begun ≡ 0 }
-    requires id { id ≡ length (W.means.view table.old seat.old).begun }
-    requires id_fits { id < ID_LIMIT }
+    requires from { from_of (W.means.setup table.old) (W.means.place seat.old) ≡ from }
+    requires next { next ≡ length (W.means.view table.old seat.old).begun }
+    requires few { next < POSITION_LIMIT }
     ensures next { result ≡ length (W.means.view table.new seat.new).begun }
-    ensures most { result ≤ id + 1 }
+    ensures most { result ≤ next + 1 }
     ensures none_held { held_count (W.means.view table.new seat.new).begun ≡ 0 }
     ensures step { IsWriterStep W.means table.old seat.old table.new seat.new }
 {
     let Some(claimed) = table.claim_try(seat, chunk) else {
-        return id;
+        return next;
     };
+    let id = id_of(from, next);
     let mut held = table.begin(seat, claimed, id);
     let size = held.body.payload.len() as u32;
     table.publish(seat, &mut held, 0, size);
     table.complete(seat, held);
-    id + 1
+    next + 1
 }
 
 /// Asks for the chunks of the page in turn, so many times; answers how many it filled.
-fn fill_all<W: Words>(table: &mut W, seat: &mut W::Writer, rounds: u32) -> u32
+fn fill_all<W: Words>(table: &mut W, seat: &mut W::Writer, from: u32, rounds: u32) -> u32
     requires seat { W.means.sits table.old seat.old }
     requires chunks { (chunk : ℕ) → chunk < 14
         → IsChunkOf (W.means.setup table.old) (producer_of (W.means.setup table.old) (W.means.place seat.old)) chunk }
     requires fresh { W.means.view table.old seat.old ≡ newcomer }
-    requires few { rounds < ID_LIMIT }
+    requires from { from_of (W.means.setup table.old) (W.means.place seat.old) ≡ from }
+    requires few { rounds < POSITION_LIMIT }
     ensures most { result ≤ rounds }
 {
     let mut won = 0;
     for round in 0..rounds {
-        won = fill(table, seat, round % 14, won);
+        won = fill(table, seat, round % 14, from, won);
     }
     won
 }
@@ -61,11 +69,12 @@ pub(crate) fn fill_page(host: &HostTable, mut seat: WriterSeat, rounds: u32) -> 
     requires seat { Sits host.now seat }
     requires fresh { known_by seat ≡ newcomer }
     requires chunks { (chunk : ℕ) → chunk < 14 → IsChunkOf (setup_in host.now) (producer_of (setup_in host.now) seat.place) chunk }
-    requires few { rounds < ID_LIMIT }
+    requires from { from_of (setup_in host.now) seat.place ≡ FROM }
+    requires few { rounds < POSITION_LIMIT }
     ensures most { result ≤ rounds }
 {
     let mut shared = Shared { table: host };
-    fill_all(&mut shared, &mut seat, rounds)
+    fill_all(&mut shared, &mut seat, FROM, rounds)
 }
 
 pub(crate) fn make(alloc: Global) -> Result<(HostTable, Vec<WriterSeat>, ServiceSeat), Fail>
@@ -82,6 +91,7 @@ pub(crate) fn make(alloc: Global) -> Result<(HostTable, Vec<WriterSeat>, Service
         producer: 1,
         buffer: 1,
         policy: WriterPolicy::Drops,
+        from: FROM,
     };
     let (host, seats, service) = HostTable::make(alloc, &producers, &[spec, spec])?;
     Ok((host, seats, service))

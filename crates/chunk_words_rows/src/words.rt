@@ -4,10 +4,11 @@ ghost use Rattle.chunk_words.specs.Sits.{Attends};
 ghost use Rattle.chunk_words_rows.specs.Fresh.{IsFreshSeat};
 ghost use Rattle.chunk_words_rows.specs.Page.{IsOnePage, HasTaken};
 
-use crate::threads::{both, make};
+use crate::threads::{FROM, both, make};
 use chunk_words::{HostTable, ServiceSeat, WriterSeat};
 use page_geometry::PageWord;
 use std::test::Fail;
+use trace_base::ids::id_of;
 
 /// The word of the page.
 fn word(host: &HostTable, service: &mut ServiceSeat) -> u64
@@ -36,7 +37,7 @@ fn filled(
 {
     let claimed = host.claim_try(writer, 0)?;
     let claimed_word = word(host, service);
-    let mut held = host.begin(writer, claimed, 0);
+    let mut held = host.begin(writer, claimed, id_of(FROM, 0));
     let begun_word = word(host, service);
     let size = held.body.payload.len() as u32;
     host.publish(writer, &mut held, 0, size);
@@ -51,7 +52,7 @@ fn taken(host: &HostTable, service: &mut ServiceSeat) -> Option<(u64, u64)>
     requires service { Attends host.now service.old }
     requires taken { HasTaken 0 service.old }
 {
-    let Ok(taken) = host.take(service, 0, 1, 0) else {
+    let Ok(taken) = host.take(service, 0, 1, id_of(FROM, 0)) else {
         return None;
     };
     let PageWord(taken_word) = host.look(service, 0).word;

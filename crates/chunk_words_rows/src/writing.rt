@@ -2,7 +2,7 @@
 //! what is next of each.
 ghost use Rattle.std.specs.Prelude.{◌≡◌, ℕ, ◌+◌, ◌-◌, ◌<◌, ◌≤◌, false, [], length, IfSome, IfNone};
 ghost use Rattle.page_geometry.specs.Sizes.{payload_size};
-ghost use Rattle.chunk_plain.specs.declared.tokens.TheConstants.{ID_LIMIT};
+ghost use Rattle.chunk_plain.specs.declared.tokens.TheConstants.{POSITION_LIMIT};
 ghost use Rattle.chunk_plain.specs.Views.{newcomer, taken_of};
 ghost use Rattle.chunk_words.specs.Knows.{service_of};
 ghost use Rattle.chunk_words.specs.Sits.{Sits, Attends, known_by};
@@ -13,7 +13,7 @@ ghost use Rattle.chunk_words_rows.specs.Fresh.{IsFreshSeat};
 ghost use Rattle.chunk_words_rows.specs.Page.{IsOnePage, HasTakenOf};
 ghost use Rattle.chunk_words_rows.specs.Going.{IsReady, TakesOne, TakesNone};
 
-use crate::threads::{both, make};
+use crate::threads::{FROM, both, make};
 use chunk_words::{HostTable, ServiceSeat, WriterSeat};
 use claim_arbiter::Arbiter;
 use page_geometry::{Geometry, PageWord};
@@ -22,6 +22,7 @@ use std::sync::ledger::{Blank, Ledger};
 use std::test::Fail;
 use std::thread::{Threads, join};
 use thread_writer::{Asks, TraceWriter};
+use trace_base::ids::id_of;
 use trace_base::policy::{WriterPolicy, WriterSpec};
 use trace_base::steps::Steps;
 use trace_writer::{NoHelp, PACKET_IDS, drops_never_stall};
@@ -63,6 +64,7 @@ pub(crate) fn writer_for(host: &HostTable, seat: WriterSeat, geometry: Geometry)
         producer: 1,
         buffer: 1,
         policy: WriterPolicy::Drops,
+        from: FROM,
     };
     TraceWriter::make(seat, spec, Arbiter::new(first, count), geometry)
 }
@@ -76,7 +78,7 @@ pub(crate) fn write_number<L: Ledger>(
 )
     requires ready { IsReady host.now writer.old }
     requires outside { in_packet (view_in writer.old) ≡ false }
-    requires ids { length (view_in writer.old).begun + PACKET_IDS ≤ ID_LIMIT }
+    requires ids { length (view_in writer.old).begun + PACKET_IDS ≤ POSITION_LIMIT }
     ensures ready { IsReady host.now writer.new }
     ensures outside { in_packet (view_in writer.new) ≡ false }
 {
@@ -137,20 +139,20 @@ fn take_one(
     seat: &mut ServiceSeat,
     chunk: u32,
     writer: u16,
-    id: u32,
+    position: u32,
 ) -> Option<u16>
     requires page { IsOnePage host.now }
     requires seat { Attends host.now seat.old }
     requires chunk { chunk < 14 }
     requires least { 1 ≤ writer }
     requires most { writer ≤ 2 }
-    requires id { id ≡ (taken_of (service_of seat.old.seat.me.0) (writer - 1)).count }
+    requires position { position ≡ (taken_of (service_of seat.old.seat.me.0) (writer - 1)).count }
     requires none_out { (service_of seat.old.seat.me.0).reading ≡ [] }
     ensures seat { Attends host.now seat.new }
     ensures taken { IfSome result (λ _. TakesOne (writer - 1) seat.old seat.new) }
     ensures other { IfNone result (TakesNone seat.old seat.new) }
 {
-    match host.take(seat, chunk, writer, id) {
+    match host.take(seat, chunk, writer, id_of(FROM, position)) {
         Ok(taken) => {
             let count = taken.header.count;
             host.release(seat, taken);
@@ -166,8 +168,8 @@ fn take_next(host: &HostTable, seat: &mut ServiceSeat, chunk: u32, counts: Count
     requires seat { Attends host.now seat.old }
     requires chunk { chunk < 14 }
     requires taken { HasTakenOf counts.first counts.second seat.old }
-    requires first_few { counts.first < ID_LIMIT }
-    requires second_few { counts.second < ID_LIMIT }
+    requires first_few { counts.first < POSITION_LIMIT }
+    requires second_few { counts.second < POSITION_LIMIT }
     ensures seat { Attends host.now seat.new }
     ensures taken { HasTakenOf result.first result.second seat.new }
     ensures first_most { result.first ≤ counts.first + 1 }
@@ -200,8 +202,8 @@ fn take_all(
     requires page { IsOnePage host.now }
     requires seat { Attends host.now seat }
     requires taken { HasTakenOf counts.first counts.second seat }
-    requires first_few { counts.first + looks < ID_LIMIT }
-    requires second_few { counts.second + looks < ID_LIMIT }
+    requires first_few { counts.first + looks < POSITION_LIMIT }
+    requires second_few { counts.second + looks < POSITION_LIMIT }
     ensures seat { Attends host.now result.1 }
     ensures taken { HasTakenOf result.0.first result.0.second result.1 }
     ensures first_most { result.0.first ≤ counts.first + looks }

@@ -106,6 +106,7 @@ pub fn read_rounds(alloc: Global, rounds: u32, kind: Kind, reads: bool) -> Optio
     let sequences = [SequenceSpec {
         sequence: 2,
         payload: 4080,
+        from: 0,
     }];
     let Ok(mut buffer) = TraceBuffer::make(alloc, spec, &sequences) else {
         return None;

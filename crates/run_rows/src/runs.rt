@@ -363,6 +363,33 @@ fn writers_that_stall_lose_nothing(rt: HostRuntime) -> Result<(), Fail> {
     Ok(())
 }
 
+const FOUR_WRAP: &[u8] =
+    b"buffer 256 ring\nproducer 1 4096 14\nwriter 1 1 stall from 4294967295\nwriter 1 1 stall from 4294967294\nwriter 1 1 stall from 4294967290\nwriter 1 1 stall from 4294967280\n";
+
+const NONE_OF_FOUR_LOST: &[u8] =
+    b"sequence 2 begun 60 delivered 60 dropped 0 overwritten 0 discarded 0 cut 0\nsequence 3 begun 60 delivered 60 dropped 0 overwritten 0 discarded 0 cut 0\nsequence 4 begun 60 delivered 60 dropped 0 overwritten 0 discarded 0 cut 0\nsequence 5 begun 60 delivered 60 dropped 0 overwritten 0 discarded 0 cut 0\n";
+
+// Each of four writers comes to the last id and goes on at 0, in the midst of packets.
+#[test]
+fn four_writers_go_on_behind_the_last_id(rt: HostRuntime) -> Result<(), Fail> {
+    let mut scenario = FOUR_WRAP.to_vec(rt.alloc())?;
+    for _ in 0..MANY {
+        scenario.extend_from_slice(
+            b"p 1 900{1:\"abcdefghij\"*30}\np 2 900{1:\"0123456789\"*30}\np 3 8:3\np 4 900{1:\"xy\"*100}\n",
+        )?;
+    }
+    let mut both = Vec::from_slice(rt.alloc(), &scenario)?;
+    let ran = run(&rt, scenario, &OpenGate)?;
+    assert_eq!(rt; ran.status, 0);
+    assert!(rt; ran.text.taken().ends_with(NONE_OF_FOUR_LOST));
+    both.extend_from_slice(b"==\n")?;
+    both.extend_from_slice(ran.trace.taken())?;
+    let checked = call(&rt, "check", both, &OpenGate)?;
+    assert_eq!(rt; checked.status, 0);
+    assert_eq!(rt; checked.trace.taken(), b"agrees 240\n".as_slice());
+    Ok(())
+}
+
 const TUNED: &[u8] =
     b"user 1 claimed 3 none 0 retiled 2 refused 0\ntaken 3\npage 1 generation 0 chunks 14\npage 2 generation 1 chunks 2\npage 3 generation 1 chunks 7\npage 4 generation 0 chunks 14\n";
 

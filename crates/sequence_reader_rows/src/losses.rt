@@ -19,14 +19,14 @@ static ROWS: [Row; 9] = [
         policy: FullPolicy::Discard,
         list: &[
             Play::Chunk {
-                id: 0,
+                position: 0,
                 flags: 0,
                 count: 1,
                 front: b"\x02\x40\x01",
             },
             Play::Fill { first: 1, end: 13 },
             Play::Refused {
-                id: 13,
+                position: 13,
                 flags: 0,
                 front: b"\x02\x40\x03",
                 whole: true,
@@ -45,7 +45,7 @@ static ROWS: [Row; 9] = [
                 why: Why::Missing { chunk_id: 14 },
             },
             Play::Refused {
-                id: 14,
+                position: 14,
                 flags: 0,
                 front: b"\x02\x40\x03",
                 whole: true,
@@ -70,20 +70,20 @@ static ROWS: [Row; 9] = [
         policy: FullPolicy::Discard,
         list: &[
             Play::Part {
-                id: 2,
+                position: 2,
                 flags: 0,
                 count: 1,
                 front: b"\x02\x40\x01",
             },
             Play::Chunk {
-                id: 0,
+                position: 0,
                 flags: 0,
                 count: 1,
                 front: b"\x02\x40\x02",
             },
             Play::Fill { first: 3, end: 14 },
             Play::Refused {
-                id: 1,
+                position: 1,
                 flags: 0,
                 front: b"\x02\x40\x03",
                 whole: true,
@@ -95,7 +95,7 @@ static ROWS: [Row; 9] = [
                 why: Why::Partial { chunk_id: 2 },
             },
             Play::Chunk {
-                id: 2,
+                position: 2,
                 flags: 0,
                 count: 2,
                 front: b"\x02\x40\x01\x02\x40\x03",
@@ -120,14 +120,14 @@ static ROWS: [Row; 9] = [
         policy: FullPolicy::Discard,
         list: &[
             Play::Chunk {
-                id: 0,
+                position: 0,
                 flags: 0,
                 count: 1,
                 front: b"\x02\x40\x01",
             },
             Play::Fill { first: 1, end: 13 },
             Play::Refused {
-                id: 13,
+                position: 13,
                 flags: 0,
                 front: b"\x02\x40\x03",
                 whole: false,
@@ -146,7 +146,7 @@ static ROWS: [Row; 9] = [
                 why: Why::Missing { chunk_id: 13 },
             },
             Play::Refused {
-                id: 13,
+                position: 13,
                 flags: 0,
                 front: b"\x02\x40\x03",
                 whole: true,
@@ -165,13 +165,13 @@ static ROWS: [Row; 9] = [
         policy: FullPolicy::Ring,
         list: &[
             Play::Chunk {
-                id: 0,
+                position: 0,
                 flags: 4,
                 count: 2,
                 front: b"\x02\x40\x01\xFF\xFF\xFF\x7F\x0A\x80\x80\x80\x00",
             },
             Play::Chunk {
-                id: 1,
+                position: 1,
                 flags: 0,
                 count: 1,
                 front: b"\x02\x40\x03",
@@ -190,7 +190,7 @@ static ROWS: [Row; 9] = [
                 refused: 0,
             },
             Play::Patched {
-                id: 0,
+                position: 0,
                 offset: 8,
                 bytes: *b"\x81\x80\x80\x00",
             },
@@ -214,19 +214,19 @@ static ROWS: [Row; 9] = [
         policy: FullPolicy::Ring,
         list: &[
             Play::Chunk {
-                id: 0,
+                position: 0,
                 flags: 6,
                 count: 2,
                 front: b"\x02\x40\x01\x05\x0A\x80\x80\x80\x00",
             },
             Play::Chunk {
-                id: 1,
+                position: 1,
                 flags: 1,
                 count: 1,
                 front: b"\xFF\xFF\xFF\x7F\x40",
             },
             Play::Chunk {
-                id: 2,
+                position: 2,
                 flags: 0,
                 count: 1,
                 front: b"\x02\x40\x03",
@@ -252,13 +252,13 @@ static ROWS: [Row; 9] = [
         policy: FullPolicy::Ring,
         list: &[
             Play::Chunk {
-                id: 1,
+                position: 1,
                 flags: 3,
                 count: 1,
                 front: b"\x01\x02",
             },
             Play::Chunk {
-                id: 0,
+                position: 0,
                 flags: 6,
                 count: 2,
                 front: b"\x02\x40\x01\x05\x0A\x80\x80\x80\x00",
@@ -298,14 +298,14 @@ static ROWS: [Row; 9] = [
         policy: FullPolicy::Discard,
         list: &[
             Play::Chunk {
-                id: 0,
+                position: 0,
                 flags: 6,
                 count: 2,
                 front: b"\x02\x40\x01\x05\x0A\x80\x80\x80\x00",
             },
             Play::Fill { first: 2, end: 14 },
             Play::Refused {
-                id: 1,
+                position: 1,
                 flags: 3,
                 front: b"\x01\x02",
                 whole: true,
@@ -338,7 +338,7 @@ static ROWS: [Row; 9] = [
         policy: FullPolicy::Ring,
         list: &[
             Play::Part {
-                id: 0,
+                position: 0,
                 flags: 0,
                 count: 1,
                 front: b"\x02\x40\x01",
@@ -350,7 +350,7 @@ static ROWS: [Row; 9] = [
                 why: Why::Partial { chunk_id: 0 },
             },
             Play::Chunk {
-                id: 1,
+                position: 1,
                 flags: 0,
                 count: 1,
                 front: b"\x02\x40\x03",
@@ -383,13 +383,13 @@ static ROWS: [Row; 9] = [
         policy: FullPolicy::Ring,
         list: &[
             Play::Part {
-                id: 0,
+                position: 0,
                 flags: 0,
                 count: 1,
                 front: b"\x02\x40\x01",
             },
             Play::Chunk {
-                id: 1,
+                position: 1,
                 flags: 0,
                 count: 1,
                 front: b"\x02\x40\x03",

@@ -7,6 +7,7 @@ use sequence_reader::{ReadEnd, Why, read_sequence};
 use std::alloc::Global;
 use std::process::Abort;
 use std::test::Fail;
+use trace_base::ids::id_of;
 use trace_base::policy::FullPolicy;
 use trace_buffer::{Arrived, BufferSpec, SequenceSpec, TraceBuffer};
 
@@ -20,25 +21,25 @@ const PAYLOAD: usize = 284;
 pub enum Play {
     /// A complete chunk arrives, with so many fragments in the front of its payload.
     Chunk {
-        id: u32,
+        position: u32,
         flags: u8,
         count: u16,
         front: &'static [u8],
     },
     /// The first fragments of a chunk arrive.
     Part {
-        id: u32,
+        position: u32,
         flags: u8,
         count: u16,
         front: &'static [u8],
     },
     /// The last patch of a chunk comes.
     Patched {
-        id: u32,
+        position: u32,
         offset: u32,
         bytes: [u8; 4],
     },
-    /// Complete chunks that go on with no packet, from one id up to another: they take room, and
+    /// Complete chunks that go on with no packet, from one position up to another: they take room, and
     /// nothing of them is delivered.
     Fill {
         first: u32,
@@ -46,7 +47,7 @@ pub enum Play {
     },
     /// A chunk of one fragment, or a first part of one, that the full buffer refuses.
     Refused {
-        id: u32,
+        position: u32,
         flags: u8,
         front: &'static [u8],
         whole: bool,
@@ -69,12 +70,17 @@ pub enum Play {
     },
 }
 
+/// The id of the sequence's first chunk: the third one's is 0. The tables name chunks by their
+/// positions.
+const FROM: u32 = 4_294_967_294;
+
 /// A buffer of one sequence, with room for 13 records.
 pub fn small_buffer(alloc: Global, policy: FullPolicy) -> Result<TraceBuffer, Fail> {
     let spec = BufferSpec { size: 4096, policy };
     let sequences = [SequenceSpec {
         sequence: 2,
         payload: 284,
+        from: FROM,
     }];
     Ok(TraceBuffer::make(alloc, spec, &sequences)?)
 }
@@ -83,7 +89,7 @@ pub fn small_buffer(alloc: Global, policy: FullPolicy) -> Result<TraceBuffer, Fa
 pub fn arrive(
     rt: &impl Abort,
     buffer: &mut TraceBuffer,
-    id: u32,
+    position: u32,
     flags: u8,
     count: u16,
     front: &[u8],
@@ -94,7 +100,7 @@ pub fn arrive(
     payload[..front.len()].copy_from_slice(front);
     let image = Image {
         sequence: SEQUENCE,
-        chunk_id: id,
+        chunk_id: id_of(FROM, position),
         count,
         flags,
         payload: &payload,
@@ -169,32 +175,36 @@ fn play_change(
 ) -> Result<(), Fail> {
     match one {
         Play::Chunk {
-            id,
+            position,
             flags,
             count,
             front,
         } => {
-            arrive(rt, buffer, id, flags, count, front, true);
+            arrive(rt, buffer, position, flags, count, front, true);
         }
         Play::Part {
-            id,
+            position,
             flags,
             count,
             front,
         } => {
-            arrive(rt, buffer, id, flags, count, front, false);
+            arrive(rt, buffer, position, flags, count, front, false);
         }
         Play::Fill { first, end } => fill(rt, buffer, first, end),
         Play::Refused {
-            id,
+            position,
             flags,
             front,
             whole,
         } => {
-            let outcome = arrive(rt, buffer, id, flags, 1, front, whole);
+            let outcome = arrive(rt, buffer, position, flags, 1, front, whole);
             assert_eq!(rt; outcome, Arrived::Discarded, "{name}");
         }
-        Play::Patched { id, offset, bytes } => patch(rt, buffer, id, offset, bytes)?,
+        Play::Patched {
+            position,
+            offset,
+            bytes,
+        } => patch(rt, buffer, position, offset, bytes)?,
         Play::Close => close(rt, buffer),
         Play::Read { .. } => {}
         Play::Lost {
@@ -215,21 +225,21 @@ fn play_change(
 }
 
 fn fill(rt: &impl Abort, buffer: &mut TraceBuffer, first: u32, end: u32) {
-    for id in first..end {
-        arrive(rt, buffer, id, 1, 1, b"\x01\x02", true);
+    for position in first..end {
+        arrive(rt, buffer, position, 1, 1, b"\x01\x02", true);
     }
 }
 
 fn patch(
     rt: &impl Abort,
     buffer: &mut TraceBuffer,
-    chunk_id: u32,
+    position: u32,
     offset: u32,
     bytes: [u8; 4],
 ) -> Result<(), Fail> {
     assert!(rt; buffer.knows(SEQUENCE));
     let patch = Patch {
-        chunk_id,
+        chunk_id: id_of(FROM, position),
         offset,
         bytes,
         last: true,

@@ -17,7 +17,7 @@ static ROWS: [Row; 14] = [
         name: "the first packet is marked, and the next one isn't",
         list: &[
             Play::Chunk {
-                id: 0,
+                position: 0,
                 flags: 0,
                 count: 1,
                 front: b"\x02\x40\x01",
@@ -29,7 +29,7 @@ static ROWS: [Row; 14] = [
                 why: Why::Missing { chunk_id: 1 },
             },
             Play::Chunk {
-                id: 1,
+                position: 1,
                 flags: 0,
                 count: 1,
                 front: b"\x02\x40\x02",
@@ -46,7 +46,7 @@ static ROWS: [Row; 14] = [
         name: "a packet over two chunks waits for the second",
         list: &[
             Play::Chunk {
-                id: 0,
+                position: 0,
                 flags: 2,
                 count: 2,
                 front: b"\x02\x40\x01\x01\x40",
@@ -58,7 +58,7 @@ static ROWS: [Row; 14] = [
                 why: Why::Missing { chunk_id: 1 },
             },
             Play::Chunk {
-                id: 1,
+                position: 1,
                 flags: 1,
                 count: 2,
                 front: b"\x01\x02\x02\x40\x03",
@@ -75,13 +75,13 @@ static ROWS: [Row; 14] = [
         name: "a packet whose middle never came is cut, and the next one is marked",
         list: &[
             Play::Chunk {
-                id: 0,
+                position: 0,
                 flags: 2,
                 count: 2,
                 front: b"\x02\x40\x01\x01\x40",
             },
             Play::Chunk {
-                id: 2,
+                position: 2,
                 flags: 1,
                 count: 2,
                 front: b"\x01\x02\x02\x40\x03",
@@ -105,7 +105,7 @@ static ROWS: [Row; 14] = [
         name: "a chunk that was overwritten is passed",
         list: &[
             Play::Chunk {
-                id: 0,
+                position: 0,
                 flags: 0,
                 count: 2,
                 front: b"\x02\x40\x01\x02\x40\x02",
@@ -117,79 +117,79 @@ static ROWS: [Row; 14] = [
                 why: Why::Limit,
             },
             Play::Chunk {
-                id: 1,
+                position: 1,
                 flags: 0,
                 count: 1,
                 front: b"\x02\x40\x03",
             },
             Play::Chunk {
-                id: 2,
+                position: 2,
                 flags: 0,
                 count: 1,
                 front: b"\x02\x40\x03",
             },
             Play::Chunk {
-                id: 3,
+                position: 3,
                 flags: 0,
                 count: 1,
                 front: b"\x02\x40\x03",
             },
             Play::Chunk {
-                id: 4,
+                position: 4,
                 flags: 0,
                 count: 1,
                 front: b"\x02\x40\x03",
             },
             Play::Chunk {
-                id: 5,
+                position: 5,
                 flags: 0,
                 count: 1,
                 front: b"\x02\x40\x03",
             },
             Play::Chunk {
-                id: 6,
+                position: 6,
                 flags: 0,
                 count: 1,
                 front: b"\x02\x40\x03",
             },
             Play::Chunk {
-                id: 7,
+                position: 7,
                 flags: 0,
                 count: 1,
                 front: b"\x02\x40\x03",
             },
             Play::Chunk {
-                id: 8,
+                position: 8,
                 flags: 0,
                 count: 1,
                 front: b"\x02\x40\x03",
             },
             Play::Chunk {
-                id: 9,
+                position: 9,
                 flags: 0,
                 count: 1,
                 front: b"\x02\x40\x03",
             },
             Play::Chunk {
-                id: 10,
+                position: 10,
                 flags: 0,
                 count: 1,
                 front: b"\x02\x40\x03",
             },
             Play::Chunk {
-                id: 11,
+                position: 11,
                 flags: 0,
                 count: 1,
                 front: b"\x02\x40\x03",
             },
             Play::Chunk {
-                id: 12,
+                position: 12,
                 flags: 0,
                 count: 1,
                 front: b"\x02\x40\x03",
             },
             Play::Chunk {
-                id: 13,
+                position: 13,
                 flags: 0,
                 count: 1,
                 front: b"\x02\x40\x03",
@@ -206,13 +206,13 @@ static ROWS: [Row; 14] = [
         name: "a drop mark ends its packet, whatever the chunk's flag says",
         list: &[
             Play::Chunk {
-                id: 0,
+                position: 0,
                 flags: 2,
                 count: 2,
                 front: b"\x02\x40\x01\xFF\xFF\xFF\x7F\x40",
             },
             Play::Chunk {
-                id: 1,
+                position: 1,
                 flags: 0,
                 count: 1,
                 front: b"\x02\x40\x03",
@@ -229,7 +229,7 @@ static ROWS: [Row; 14] = [
         name: "a fragment that awaits a patch stops the read until it comes",
         list: &[
             Play::Chunk {
-                id: 0,
+                position: 0,
                 flags: 4,
                 count: 1,
                 front: b"\x05\x0A\x80\x80\x80\x00",
@@ -241,7 +241,7 @@ static ROWS: [Row; 14] = [
                 why: Why::Unpatched { chunk_id: 0 },
             },
             Play::Patched {
-                id: 0,
+                position: 0,
                 offset: 2,
                 bytes: *b"\x81\x80\x80\x00",
             },
@@ -257,7 +257,7 @@ static ROWS: [Row; 14] = [
         name: "the packets of a part aren't delivered again with the whole chunk",
         list: &[
             Play::Part {
-                id: 0,
+                position: 0,
                 flags: 0,
                 count: 2,
                 front: b"\x02\x40\x01\x02\x40\x02",
@@ -269,7 +269,7 @@ static ROWS: [Row; 14] = [
                 why: Why::Partial { chunk_id: 0 },
             },
             Play::Chunk {
-                id: 0,
+                position: 0,
                 flags: 0,
                 count: 3,
                 front: b"\x02\x40\x01\x02\x40\x02\x02\x40\x03",
@@ -286,7 +286,7 @@ static ROWS: [Row; 14] = [
         name: "the part of a closed sequence is read, and then it ends",
         list: &[
             Play::Part {
-                id: 0,
+                position: 0,
                 flags: 0,
                 count: 1,
                 front: b"\x02\x40\x01",
@@ -310,7 +310,7 @@ static ROWS: [Row; 14] = [
         name: "limits of none and of more than there is",
         list: &[
             Play::Chunk {
-                id: 0,
+                position: 0,
                 flags: 0,
                 count: 2,
                 front: b"\x02\x40\x01\x02\x40\x02",
@@ -339,7 +339,7 @@ static ROWS: [Row; 14] = [
         name: "a continuation without a start is passed",
         list: &[
             Play::Chunk {
-                id: 0,
+                position: 0,
                 flags: 1,
                 count: 2,
                 front: b"\x01\x02\x02\x40\x01",
@@ -356,13 +356,13 @@ static ROWS: [Row; 14] = [
         name: "a chunk that doesn't continue a packet cuts it",
         list: &[
             Play::Chunk {
-                id: 0,
+                position: 0,
                 flags: 2,
                 count: 2,
                 front: b"\x02\x40\x01\x01\x40",
             },
             Play::Chunk {
-                id: 1,
+                position: 1,
                 flags: 0,
                 count: 1,
                 front: b"\x02\x40\x03",
@@ -379,7 +379,7 @@ static ROWS: [Row; 14] = [
         name: "a continuation that reaches the stop place isn't passed",
         list: &[
             Play::Chunk {
-                id: 0,
+                position: 0,
                 flags: 3,
                 count: 1,
                 front: b"\x01\x02",
@@ -391,7 +391,7 @@ static ROWS: [Row; 14] = [
                 why: Why::Missing { chunk_id: 1 },
             },
             Play::Chunk {
-                id: 1,
+                position: 1,
                 flags: 1,
                 count: 2,
                 front: b"\x01\x02\x02\x40\x03",
@@ -408,13 +408,13 @@ static ROWS: [Row; 14] = [
         name: "a packet is cut by a chunk that is itself the stop place",
         list: &[
             Play::Chunk {
-                id: 0,
+                position: 0,
                 flags: 2,
                 count: 2,
                 front: b"\x02\x40\x01\x01\x40",
             },
             Play::Chunk {
-                id: 1,
+                position: 1,
                 flags: 4,
                 count: 1,
                 front: b"\x05\x0A\x80\x80\x80\x00",
@@ -426,7 +426,7 @@ static ROWS: [Row; 14] = [
                 why: Why::Unpatched { chunk_id: 1 },
             },
             Play::Patched {
-                id: 1,
+                position: 1,
                 offset: 2,
                 bytes: *b"\x81\x80\x80\x00",
             },
@@ -442,13 +442,13 @@ static ROWS: [Row; 14] = [
         name: "a packet that awaits a patch is cut once its sequence is closed",
         list: &[
             Play::Chunk {
-                id: 0,
+                position: 0,
                 flags: 4,
                 count: 2,
                 front: b"\x02\x40\x01\x05\x0A\x80\x80\x80\x00",
             },
             Play::Chunk {
-                id: 1,
+                position: 1,
                 flags: 0,
                 count: 1,
                 front: b"\x02\x40\x03",

@@ -4,7 +4,7 @@ use Rattle.trace_base.specs.declared.policy.WriterSpec.{WriterSpec}
 use Rattle.page_geometry.specs.Sizes.{payload_size, chunk_size}
 use Rattle.page_geometry.specs.declared.geometry.Geometry.{Geometry}
 use Rattle.chunk_plain.specs.declared.setup.ProducerSpec.{ProducerSpec}
-use Rattle.chunk_plain.specs.Setup.{Setup, IsLaid, HasProducer, IsChunkOf, producer_of, range_of, size_of}
+use Rattle.chunk_plain.specs.Setup.{Setup, IsLaid, HasProducer, IsChunkOf, producer_of, from_of, range_of, size_of}
 use Rattle.chunk_plain.specs.Laying.{setup_of}
 use Rattle.chunk_plain.specs.Views.{ServiceView, Taken, taken_of}
 use Rattle.chunk_plain.specs.Views as view
@@ -57,6 +57,7 @@ record IsWriterOf (setup : Setup) (place producer : ℕ) : Type 0 where
   pub least : 1 ≤ producer
   pub most : producer ≤ length setup.ranges
   pub producer_is : producer_of setup place ≡ producer
+  pub from_is : from_of setup place ≡ 0
   pub size : size_of setup producer ≡ 284
 
 writes_for : (table : HostTable) (place producer : ℕ) → IsWriterOf (setup_in table) place producer → WritesFor table place producer
@@ -67,23 +68,24 @@ writes_for table place producer is =
       spec = is.spec;
       has_producer = has;
       producer_is = is.producer_is;
+      from_is = is.from_is;
       some = laid.some producer has;
       inside = λ chunk of. let all = laid.ranges producer in let below = of.below in omega (arith, all, below);
       sizes = λ chunk of. laid.sizes producer chunk of ∙ is.size;
     }
 
 own_writer : (geometry : Geometry) (place : ℕ) → geometry.page_size ≡ 4096 → geometry.chunks ≡ 14 → place < 4 → IsWriterOf (own_setup geometry) place (place + 1)
-own_writer geometry zero size many below = record { spec = refl; least = omega arith; most = omega arith; producer_is = refl; size = room_of geometry size many }
-own_writer geometry (suc zero) size many below = record { spec = refl; least = omega arith; most = omega arith; producer_is = refl; size = room_of geometry size many }
-own_writer geometry (suc (suc zero)) size many below = record { spec = refl; least = omega arith; most = omega arith; producer_is = refl; size = room_of geometry size many }
-own_writer geometry (suc (suc (suc zero))) size many below = record { spec = refl; least = omega arith; most = omega arith; producer_is = refl; size = room_of geometry size many }
+own_writer geometry zero size many below = record { spec = refl; least = omega arith; most = omega arith; producer_is = refl; from_is = refl; size = room_of geometry size many }
+own_writer geometry (suc zero) size many below = record { spec = refl; least = omega arith; most = omega arith; producer_is = refl; from_is = refl; size = room_of geometry size many }
+own_writer geometry (suc (suc zero)) size many below = record { spec = refl; least = omega arith; most = omega arith; producer_is = refl; from_is = refl; size = room_of geometry size many }
+own_writer geometry (suc (suc (suc zero))) size many below = record { spec = refl; least = omega arith; most = omega arith; producer_is = refl; from_is = refl; size = room_of geometry size many }
 own_writer geometry (suc (suc (suc (suc place)))) size many below = absurd (omega (arith, below))
 
 shared_writer : (geometry : Geometry) (place : ℕ) → geometry.page_size ≡ 4096 → geometry.chunks ≡ 14 → place < 4 → IsWriterOf (shared_setup geometry) place 1
-shared_writer geometry zero size many below = record { spec = refl; least = omega arith; most = omega arith; producer_is = refl; size = room_of geometry size many }
-shared_writer geometry (suc zero) size many below = record { spec = refl; least = omega arith; most = omega arith; producer_is = refl; size = room_of geometry size many }
-shared_writer geometry (suc (suc zero)) size many below = record { spec = refl; least = omega arith; most = omega arith; producer_is = refl; size = room_of geometry size many }
-shared_writer geometry (suc (suc (suc zero))) size many below = record { spec = refl; least = omega arith; most = omega arith; producer_is = refl; size = room_of geometry size many }
+shared_writer geometry zero size many below = record { spec = refl; least = omega arith; most = omega arith; producer_is = refl; from_is = refl; size = room_of geometry size many }
+shared_writer geometry (suc zero) size many below = record { spec = refl; least = omega arith; most = omega arith; producer_is = refl; from_is = refl; size = room_of geometry size many }
+shared_writer geometry (suc (suc zero)) size many below = record { spec = refl; least = omega arith; most = omega arith; producer_is = refl; from_is = refl; size = room_of geometry size many }
+shared_writer geometry (suc (suc (suc zero))) size many below = record { spec = refl; least = omega arith; most = omega arith; producer_is = refl; from_is = refl; size = room_of geometry size many }
 shared_writer geometry (suc (suc (suc (suc place)))) size many below = absurd (omega (arith, below))
 
 pub own_timed : (table : HostTable) (geometry : Geometry) (writers : List WriterSpec) → setup_in table ≡ setup_of (own_producers geometry) writers

@@ -10,7 +10,7 @@ use Rattle.chunk_words.specs.Sits.{Sits, setup_in, known_by}
 -- the writer holds the chunk, which has 284 bytes, and none of its fragments is finished
 pub record HoldsFresh (table : HostTable) (seat : WriterSeat) (held : HeldToken) : Type 0 where
   pub sits : Sits table seat
-  pub holds : IsHolding (known_by seat) held.chunk held.id
-  pub none_sealed : (draft_at (known_by seat) held.id).ends ≡ []
+  pub holds : IsHolding (known_by seat) held.chunk held.position
+  pub none_sealed : (draft_at (known_by seat) held.position).ends ≡ []
   pub room : (spot (setup_in table) held.chunk).payload_size ≡ 284
   pub whole : vec_len held.body.payload ≡ 284

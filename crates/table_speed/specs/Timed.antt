@@ -2,7 +2,7 @@
 use Rattle.std.specs.Prelude.{◌≡◌, ℕ, ◌+◌, ◌<◌, ◌≤◌, Bool, if◌then◌else◌, List, length, Some, slice_get}
 use Rattle.trace_base.specs.declared.policy.WriterPolicy.TheVariants.{Drops}
 use Rattle.trace_base.specs.declared.policy.WriterSpec.{WriterSpec}
-use Rattle.chunk_plain.specs.Setup.{HasProducer, IsChunkOf, producer_of, range_of, spot}
+use Rattle.chunk_plain.specs.Setup.{HasProducer, IsChunkOf, producer_of, from_of, range_of, spot}
 use Rattle.chunk_plain.specs.Views.{newcomer}
 use Rattle.chunk_words.specs.declared.host.HostTable.{HostTable}
 use Rattle.chunk_words.specs.declared.seats.WriterSeat.{WriterSeat}
@@ -12,16 +12,21 @@ use Rattle.table_speed.specs.declared.places.Place.{Place}
 
 -- a writer of this producer's chunks, which drops packets where no chunk is free
 abbrev pub drops_for : ℕ → WriterSpec
-drops_for producer = record { producer = producer; buffer = 1; policy = Drops }
+drops_for producer = record { producer = producer; buffer = 1; policy = Drops; from = 0 }
 
 -- the writer at this place writes into the chunks of this producer, each with 284 bytes of payload
 pub record WritesFor (table : HostTable) (place producer : ℕ) : Type 0 where
   pub spec : slice_get (setup_in table).writers place ≡ Some (drops_for producer)
   pub has_producer : HasProducer (setup_in table) producer
   pub producer_is : producer_of (setup_in table) place ≡ producer
+  pub from_is : from_of (setup_in table) place ≡ 0
   pub some : 0 < (range_of (setup_in table) producer).count
   pub inside : (chunk : ℕ) → IsChunkOf (setup_in table) producer chunk → chunk < length (setup_in table).spots
   pub sizes : (chunk : ℕ) → IsChunkOf (setup_in table) producer chunk → (spot (setup_in table) chunk).payload_size ≡ 284
+
+-- the first id of each of four writers is 0
+abbrev pub BeginAtNought : HostTable → Type 0
+BeginAtNought table = (place : ℕ) → place < 4 → from_of (setup_in table) place ≡ 0
 
 -- four writers, each with a producer of its own or all with one
 pub record IsTimed (table : HostTable) (own : Bool) : Type 0 where

@@ -52,6 +52,7 @@ fn drops(producer: u16) -> WriterSpec
         producer,
         buffer: 1,
         policy: WriterPolicy::Drops,
+        from: 0,
     }
 }
 

@@ -1,8 +1,8 @@
 //! Rounds of one chunk on one thread: the writer claims, begins, publishes and completes it, and the
 //! service takes and releases it.
 ghost use Rattle.std.specs.Prelude.{◌≡◌, ◌+◌, ◌-◌, ◌<◌, ◌≤◌, length, IfSome, IfNone};
-ghost use Rattle.chunk_plain.specs.declared.tokens.TheConstants.{ID_LIMIT};
-ghost use Rattle.chunk_plain.specs.Setup.{producer_of, spot, IsChunkOf};
+ghost use Rattle.chunk_plain.specs.declared.tokens.TheConstants.{POSITION_LIMIT};
+ghost use Rattle.chunk_plain.specs.Setup.{producer_of, from_of, spot, IsChunkOf};
 ghost use Rattle.chunk_plain.specs.Words.{IsPublished};
 ghost use Rattle.chunk_words.specs.Sits.{Sits, Attends, setup_in, known_by};
 ghost use Rattle.table_speed.specs.Holding.{HoldsFresh};
@@ -11,29 +11,31 @@ ghost use Rattle.table_speed.specs.Timed.{IsFresh};
 
 use crate::places::{Place, Tally, first_chunk, geometry, make, next_place};
 use crate::service::take_one;
-use chunk_plain::{Held, ID_LIMIT};
+use chunk_plain::{Held, POSITION_LIMIT};
 use chunk_words::{HostTable, ServiceSeat, WriterSeat};
 use std::alloc::Global;
+use trace_base::ids::id_of;
 
 /// The payload of each chunk.
 const PAYLOAD: u32 = 284;
 
 /// None where the chunk was claimed.
-pub fn begin(host: &HostTable, seat: &mut WriterSeat, chunk: u32, id: u32) -> Option<Held>
+pub fn begin(host: &HostTable, seat: &mut WriterSeat, chunk: u32, position: u32) -> Option<Held>
     requires seat { Sits host.now seat.old }
     requires chunk { IsChunkOf (setup_in host.now) (producer_of (setup_in host.now) seat.old.place) chunk }
-    requires id { id ≡ length (known_by seat.old).begun }
-    requires id_fits { id < ID_LIMIT }
+    requires from { from_of (setup_in host.now) seat.old.place ≡ 0 }
+    requires position { position ≡ length (known_by seat.old).begun }
+    requires few { position < POSITION_LIMIT }
     requires size { (spot (setup_in host.now) chunk).payload_size ≡ PAYLOAD }
     ensures held { IfSome result (λ held. HoldsFresh host.now seat.new held) }
     ensures chunk { IfSome result (λ held. held.chunk ≡ chunk) }
-    ensures more { IfSome result (λ _. length (known_by seat.new).begun ≡ id + 1) }
-    ensures none { IfNone result (length (known_by seat.new).begun ≡ id) }
+    ensures more { IfSome result (λ _. length (known_by seat.new).begun ≡ position + 1) }
+    ensures none { IfNone result (length (known_by seat.new).begun ≡ position) }
     ensures seat { Sits host.now seat.new }
     ensures place { seat.new.place ≡ seat.old.place }
 {
     let claimed = host.claim_try(seat, chunk)?;
-    Some(host.begin(seat, claimed, id))
+    Some(host.begin(seat, claimed, id_of(0, position)))
 }
 
 /// Publishes the whole payload.
@@ -41,7 +43,7 @@ pub fn publish(host: &HostTable, seat: &mut WriterSeat, held: &mut Held)
     requires held { HoldsFresh host.now seat.old held.old }
     ensures held { HoldsFresh host.now seat.new held.new }
     ensures same { held.new ≡ held.old }
-    ensures published { IsPublished (known_by seat.new) held.new.id held.new.body.payload.items }
+    ensures published { IsPublished (known_by seat.new) held.new.position held.new.body.payload.items }
     ensures count { length (known_by seat.new).begun ≡ length (known_by seat.old).begun }
     ensures place { seat.new.place ≡ seat.old.place }
 {
@@ -51,7 +53,7 @@ pub fn publish(host: &HostTable, seat: &mut WriterSeat, held: &mut Held)
 /// Completes a chunk whose payload is published.
 pub fn complete(host: &HostTable, seat: &mut WriterSeat, held: Held)
     requires held { HoldsFresh host.now seat.old held }
-    requires published { IsPublished (known_by seat.old) held.id held.body.payload.items }
+    requires published { IsPublished (known_by seat.old) held.position held.body.payload.items }
     ensures seat { Sits host.now seat.new }
     ensures count { length (known_by seat.new).begun ≡ length (known_by seat.old).begun }
     ensures place { seat.new.place ≡ seat.old.place }
@@ -59,25 +61,27 @@ pub fn complete(host: &HostTable, seat: &mut WriterSeat, held: Held)
     host.complete(seat, held);
 }
 
-/// The writer's way with a chunk that is free. It answers the writer's next id.
-fn fill(host: &HostTable, seat: &mut WriterSeat, chunk: u32, id: u32) -> u32
+/// The writer's way with a chunk that is free. It answers the writer's next position.
+fn fill(host: &HostTable, seat: &mut WriterSeat, chunk: u32, position: u32) -> u32
     requires seat { Sits host.now seat.old }
     requires chunk { IsChunkOf (setup_in host.now) (producer_of (setup_in host.now) seat.old.place) chunk }
-    requires id { id ≡ length (known_by seat.old).begun }
+    requires from { from_of (setup_in host.now) seat.old.place ≡ 0 }
+    requires position { position ≡ length (known_by seat.old).begun }
     requires size { (spot (setup_in host.now) chunk).payload_size ≡ PAYLOAD }
     ensures next { result ≡ length (known_by seat.new).begun }
     ensures seat { Sits host.now seat.new }
     ensures chunk { IsChunkOf (setup_in host.now) (producer_of (setup_in host.now) seat.new.place) chunk }
+    ensures from { from_of (setup_in host.now) seat.new.place ≡ 0 }
 {
-    if id == ID_LIMIT {
-        return id;
+    if position == POSITION_LIMIT {
+        return position;
     }
-    let Some(mut held) = begin(host, seat, chunk, id) else {
-        return id;
+    let Some(mut held) = begin(host, seat, chunk, position) else {
+        return position;
     };
     publish(host, seat, &mut held);
     complete(host, seat, held);
-    id + 1
+    position + 1
 }
 
 /// The service's way with a chunk that is the writer's next one. It answers how many were taken of
@@ -87,6 +91,7 @@ fn empty(host: &HostTable, seat: &mut ServiceSeat, chunk: u32, writer: u16, take
     requires chunk { chunk < length (setup_in host.now).spots }
     requires least { 1 ≤ writer }
     requires most { writer ≤ length (setup_in host.now).writers }
+    requires from { from_of (setup_in host.now) (writer - 1) ≡ 0 }
     requires taken { HasTaken (writer - 1) taken seat.old }
     ensures seat { Attends host.now seat.new }
     ensures taken { HasTaken (writer - 1) result seat.new }

@@ -4,11 +4,13 @@ ghost use Rattle.std.specs.Prelude.{◌≡◌, ◌-◌, ◌<◌, ◌≤◌, [], 
 ghost use Rattle.chunk_words.specs.Knows.{service_of};
 ghost use Rattle.chunk_words.specs.Sits.{Attends, setup_in};
 ghost use Rattle.table_speed.specs.Taking.{HasTakenEach, HasTakenNone, TakesOne, TakesNone, count_of};
-ghost use Rattle.table_speed.specs.Timed.{IsTimed};
+ghost use Rattle.table_speed.specs.Timed.{IsTimed, BeginAtNought};
+ghost use Rattle.chunk_plain.specs.Setup.{from_of};
 
 use chunk_words::{HostTable, ServiceSeat};
 use page_geometry::ChunkHeader;
 use std::sync::atomic::{AtomicU64, Ordering};
+use trace_base::ids::id_of;
 
 /// The chunks of all pages.
 const CHUNKS: u32 = 224;
@@ -20,19 +22,20 @@ pub fn take_one(
     seat: &mut ServiceSeat,
     chunk: u32,
     writer: u16,
-    id: u32,
+    position: u32,
 ) -> Option<u16>
     requires seat { Attends host.now seat.old }
     requires chunk { chunk < length (setup_in host.now).spots }
     requires least { 1 ≤ writer }
     requires most { writer ≤ length (setup_in host.now).writers }
-    requires id { id ≡ count_of seat.old (writer - 1) }
+    requires from { from_of (setup_in host.now) (writer - 1) ≡ 0 }
+    requires position { position ≡ count_of seat.old (writer - 1) }
     requires none_out { (service_of seat.old.seat.me.0).reading ≡ [] }
     ensures seat { Attends host.now seat.new }
     ensures taken { IfSome result (λ _. TakesOne (writer - 1) seat.old seat.new) }
     ensures other { IfNone result (TakesNone seat.old seat.new) }
 {
-    match host.take(seat, chunk, writer, id) {
+    match host.take(seat, chunk, writer, id_of(0, position)) {
         Ok(taken) => {
             let count = taken.header.count;
             host.release(seat, taken);
@@ -56,6 +59,7 @@ fn find(host: &HostTable, seat: &mut ServiceSeat, chunk: u32) -> ChunkHeader
 /// Looks at the chunk, and takes it where it is the next one of its writer. True says that it was.
 fn take_next(host: &HostTable, seat: &mut ServiceSeat, chunk: u32, counts: &mut [u32; 4]) -> bool
     requires writers { length (setup_in host.now).writers ≡ 4 }
+    requires froms { BeginAtNought host.now }
     requires seat { Attends host.now seat.old }
     requires chunk { chunk < length (setup_in host.now).spots }
     requires taken { HasTakenEach counts.old seat.old }
@@ -68,11 +72,12 @@ fn take_next(host: &HostTable, seat: &mut ServiceSeat, chunk: u32, counts: &mut 
         return false;
     }
     let place = usize::from(writer - 1);
-    let id = counts[place];
-    let Some(more) = id.checked_add(1) else {
+    let position = counts[place];
+    let Some(more) = position.checked_add(1) else {
         return false;
     };
-    if header.chunk_id != id || take_one(host, seat, chunk, writer, id).is_none() {
+    let id = id_of(0, position);
+    if header.chunk_id != id || take_one(host, seat, chunk, writer, position).is_none() {
         return false;
     }
     counts[place] = more;
@@ -82,6 +87,7 @@ fn take_next(host: &HostTable, seat: &mut ServiceSeat, chunk: u32, counts: &mut 
 /// Goes through all chunks once. True says that some chunk was taken.
 fn take_each(host: &HostTable, seat: &mut ServiceSeat, counts: &mut [u32; 4]) -> bool
     requires writers { length (setup_in host.now).writers ≡ 4 }
+    requires froms { BeginAtNought host.now }
     requires chunks { CHUNKS ≤ length (setup_in host.now).spots }
     requires seat { Attends host.now seat.old }
     requires taken { HasTakenEach counts.old seat.old }
@@ -101,6 +107,7 @@ fn take_each(host: &HostTable, seat: &mut ServiceSeat, counts: &mut [u32; 4]) ->
 /// many were taken of all.
 pub fn take_all(host: &HostTable, mut seat: ServiceSeat, ended: &AtomicU64) -> u32
     requires writers { length (setup_in host.now).writers ≡ 4 }
+    requires froms { BeginAtNought host.now }
     requires chunks { CHUNKS ≤ length (setup_in host.now).spots }
     requires seat { Attends host.now seat }
     requires none { HasTakenNone seat }

@@ -3,7 +3,7 @@ ghost use Rattle.std.specs.Prelude.{◌≡◌, ◌≤◌, length};
 ghost use Rattle.page_geometry.specs.Sizes.{payload_size};
 ghost use Rattle.chunk_words.specs.Sits.{Attends, setup_in};
 ghost use Rattle.table_speed.specs.Taking.{HasTakenNone};
-ghost use Rattle.table_speed.specs.Timed.{IsFresh};
+ghost use Rattle.table_speed.specs.Timed.{IsFresh, BeginAtNought};
 
 use crate::places::{Place, Tally, geometry, make, next_place};
 use crate::service::take_all;
@@ -85,6 +85,7 @@ fn run<R: Threads + Sync>(
     requires service { Attends host.now service }
     requires taken { HasTakenNone service }
     requires writers { length (setup_in host.now).writers ≡ 4 }
+    requires froms { BeginAtNought host.now }
     requires chunks { 224 ≤ length (setup_in host.now).spots }
 {
     let (first, second, third, fourth) = places;

@@ -3,7 +3,7 @@
 ghost use Rattle.std.specs.Prelude.{◌≡◌, ◌+◌, ◌<◌, ◌≤◌, true, false, length};
 ghost use Rattle.page_geometry.specs.Sizes.{payload_size};
 ghost use Rattle.trace_base.specs.declared.limits.TheConstants.{MAX_FIELD, MAX_INPUT};
-ghost use Rattle.chunk_plain.specs.declared.tokens.TheConstants.{ID_LIMIT};
+ghost use Rattle.chunk_plain.specs.declared.tokens.TheConstants.{POSITION_LIMIT};
 ghost use Rattle.trace_writer.specs.declared.ids.TheConstants.{PACKET_IDS};
 ghost use Rattle.trace_writer.specs.Core.{in_packet, open_depth};
 ghost use Rattle.thread_writer.specs.Writing.{view_in};
@@ -38,6 +38,7 @@ pub fn writer_for(host: &HostTable, place: Place, geometry: Geometry) -> TraceWr
         producer,
         buffer: 1,
         policy: WriterPolicy::Drops,
+        from: 0,
     };
     TraceWriter::make(seat, spec, Arbiter::new(first, count), geometry)
 }
@@ -100,7 +101,7 @@ fn begin_message<L: Ledger>(
 fn begin_packet<L: Ledger>(writer: &mut TraceWriter, host: &HostTable, steps: &mut Steps<L>)
     requires ready { IsReady host.now writer.old }
     requires outside { in_packet (view_in writer.old) ≡ false }
-    requires ids { length (view_in writer.old).begun + PACKET_IDS ≤ ID_LIMIT }
+    requires ids { length (view_in writer.old).begun + PACKET_IDS ≤ POSITION_LIMIT }
     ensures ready { IsReady host.now writer.new }
     ensures inside { in_packet (view_in writer.new) ≡ true }
 {
@@ -130,7 +131,7 @@ fn end_packet(writer: &mut TraceWriter, host: &HostTable)
 fn write_packet<L: Ledger>(writer: &mut TraceWriter, host: &HostTable, steps: &mut Steps<L>)
     requires ready { IsReady host.now writer.old }
     requires outside { in_packet (view_in writer.old) ≡ false }
-    requires ids { length (view_in writer.old).begun + PACKET_IDS ≤ ID_LIMIT }
+    requires ids { length (view_in writer.old).begun + PACKET_IDS ≤ POSITION_LIMIT }
     ensures ready { IsReady host.now writer.new }
     ensures outside { in_packet (view_in writer.new) ≡ false }
 {

@@ -90,7 +90,7 @@ fn what_was_read_of_a_part_that_is_gone_is_not_read_again(rt: HostRuntime) -> Re
 }
 
 #[test]
-fn an_id_is_taken_up_to_1023_ahead(rt: HostRuntime) -> Result<(), Fail> {
+fn a_position_is_taken_up_to_1023_ahead(rt: HostRuntime) -> Result<(), Fail> {
     let steps = [
         Arrive(1023, 1, 0, Arrived::Kept),
         Arrive(1024, 1, 0, Arrived::TooFar),

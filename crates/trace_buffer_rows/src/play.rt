@@ -10,6 +10,7 @@ use page_geometry::MAX_FLAGS;
 use std::alloc::{AllocError, Global};
 use std::process::Abort;
 use std::test::Fail;
+use trace_base::ids::id_of;
 use trace_base::limits::MAX_FRAGMENTS;
 use trace_buffer::{BufferSpec, Cursor, SequenceSpec, TraceBuffer};
 
@@ -18,8 +19,23 @@ const FIRST: u32 = 2;
 
 const SECOND: u32 = 3;
 
+/// The ids of their first chunks: the third chunk of the first sequence has the id 0.
+const FIRST_FROM: u32 = 4_294_967_294;
+
+const SECOND_FROM: u32 = 7;
+
 /// A record with this payload fills the buffer.
 const MAX_PAYLOAD: u32 = 4080;
+
+/// The id of a chunk, by its sequence and its position in it.
+fn id_at(sequence: u32, position: u32) -> u32 {
+    let from = if sequence == FIRST {
+        FIRST_FROM
+    } else {
+        SECOND_FROM
+    };
+    id_of(from, position)
+}
 
 pub fn play(rt: &impl Abort, alloc: Global, setup: Setup, steps: &[Step]) -> Result<(), Fail>
     requires { setup.payload ≤ MAX_PAYLOAD }
@@ -52,10 +68,12 @@ fn make_buffer(alloc: Global, setup: Setup) -> Result<TraceBuffer, AllocError>
         SequenceSpec {
             sequence: FIRST,
             payload: setup.payload,
+            from: FIRST_FROM,
         },
         SequenceSpec {
             sequence: SECOND,
             payload: setup.payload,
+            from: SECOND_FROM,
         },
     ];
     TraceBuffer::make(alloc, spec, &sequences)
@@ -76,7 +94,7 @@ fn acts(
 {
     let is_open = !buffer.state(sequence).closed;
     match step {
-        Step::Arrive(chunk_id, count, flags, wanted) => {
+        Step::Arrive(position, count, flags, wanted) => {
             assert!(rt;
                 is_open && count <= MAX_FRAGMENTS && flags <= MAX_FLAGS,
                 "{at}"
@@ -84,28 +102,28 @@ fn acts(
             let bytes = payload_of(count);
             let image = Image {
                 sequence,
-                chunk_id,
+                chunk_id: id_at(sequence, position),
                 count,
                 flags,
                 payload: &bytes[..payload as usize],
             };
             assert_eq!(rt; buffer.arrive(&image), wanted, "{at}");
         }
-        Step::Part(chunk_id, count, wanted) => {
+        Step::Part(position, count, wanted) => {
             assert!(rt; is_open && count <= MAX_FRAGMENTS, "{at}");
             let bytes = payload_of(count);
             let image = Image {
                 sequence,
-                chunk_id,
+                chunk_id: id_at(sequence, position),
                 count,
                 flags: 0,
                 payload: &bytes[..payload as usize],
             };
             assert_eq!(rt; buffer.arrive_partial(&image), wanted, "{at}");
         }
-        Step::Patch(chunk_id, offset, last, wanted) => {
+        Step::Patch(position, offset, last, wanted) => {
             let patch = Patch {
-                chunk_id,
+                chunk_id: id_at(sequence, position),
                 offset,
                 bytes: [9, 8, 7, 6],
                 last,
@@ -141,19 +159,23 @@ fn look(rt: &impl Abort, buffer: &TraceBuffer, sequence: u32, step: Step, at: us
 {
     match step {
         Step::Chunks(lost, there) => {
-            for id in 0..8 {
-                let has_record = buffer.image_of(sequence, id).is_some();
-                assert_eq!(rt; has_record, there[id as usize], "{at} {id}");
-                assert_eq!(rt; buffer.lost(sequence, id), lost[id as usize], "{at} {id}");
+            for position in 0..8 {
+                let has_record = buffer.image_of(sequence, position).is_some();
+                assert_eq!(rt; has_record, there[position as usize], "{at} {position}");
+                assert_eq!(rt;
+                    buffer.lost(sequence, position),
+                    lost[position as usize],
+                    "{at} {position}"
+                );
             }
         }
-        Step::Record(id, count, partial, awaits) => {
-            let found = buffer.image_of(sequence, id).map(|image| image.0);
+        Step::Record(position, count, partial, awaits) => {
+            let found = buffer.image_of(sequence, position).map(|image| image.0);
             let found = found.map(|key| (key.count, key.partial, key.awaits));
             assert_eq!(rt; found, Some((count, partial, awaits)), "{at}");
         }
-        Step::Byte(id, place, wanted) => {
-            let found = buffer.image_of(sequence, id);
+        Step::Byte(position, place, wanted) => {
+            let found = buffer.image_of(sequence, position);
             let found = found.and_then(|image| image.1.get(place).copied());
             assert_eq!(rt; found, Some(wanted), "{at}");
         }

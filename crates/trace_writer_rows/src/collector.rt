@@ -2,13 +2,15 @@
 ghost use Rattle.std.specs.Prelude.{◌≡◌, ◌+◌, ◌-◌, ◌<◌, ◌≤◌, [], length};
 ghost use Rattle.std.proofs.Common.{refl, ap, sym, subst, ◌∙◌};
 ghost use Rattle.trace_model.specs.Counts.{last_count};
-ghost use Rattle.chunk_plain.specs.Setup.{Setup};
+ghost use Rattle.chunk_plain.specs.Setup.{Setup, from_of};
 ghost use Rattle.chunk_plain.specs.Views.{ServiceView, taken_of};
 ghost use Rattle.trace_writer.specs.Helping.{LeavesWriters};
 
+use crate::setting::FROM;
 use chunk_plain::{ChunkRange, PlainService, PlainTable, Taken, Words};
 use commit_body::Patch;
 use page_geometry::ChunkHeader;
+use trace_base::ids::id_of;
 use trace_base::limits::MAX_INPUT;
 use trace_writer::{HelperOn, NoHelp};
 
@@ -71,7 +73,7 @@ pub(crate) struct Collector {
     pub range: ChunkRange,
     /// Chunks that were taken of the first writer.
     pub taken: u32,
-    /// The newest four of them, by the rest of their ids.
+    /// The newest four of them, by the rest of their positions.
     pub images: [Option<Image>; 4],
     /// It takes nothing when a writer asks it.
     pub waits: bool,
@@ -92,7 +94,7 @@ impl Collector {
         let Some(more) = self.taken.checked_add(1) else {
             return;
         };
-        let Ok(token) = table.take(&mut self.service, chunk, 1, self.taken) else {
+        let Ok(token) = table.take(&mut self.service, chunk, 1, id_of(FROM, self.taken)) else {
             return;
         };
         self.images[self.taken as usize % 4] = Some(Image::of(&token));
@@ -104,13 +106,14 @@ impl Collector {
 impl HelperOn<PlainTable> for Collector {
     ghost turns = { λ collector. 4294967296 - collector.taken };
 
-    // the chunks are there, it counted what was taken of the first writer, and it reads none of it
+    // the chunks are there, it counted what was taken of the first writer, whose ids it knows, and it reads none of it
     ghost needs = { λ collector table. (⟦<PlainTable as Words>⟧.means.serves table collector.service)
         × (collector.range.first + collector.range.count ≤ length (⟦<PlainTable as Words>⟧.means.setup table).spots)
         × (1 ≤ length (⟦<PlainTable as Words>⟧.means.setup table).writers)
         × (0 < length (⟦<PlainTable as Words>⟧.means.service_view table collector.service).taken)
         × ((⟦<PlainTable as Words>⟧.means.service_view table collector.service).reading ≡ [])
-        × (collector.taken ≡ (taken_of (⟦<PlainTable as Words>⟧.means.service_view table collector.service) 0).count) };
+        × (collector.taken ≡ (taken_of (⟦<PlainTable as Words>⟧.means.service_view table collector.service) 0).count)
+        × (from_of (⟦<PlainTable as Words>⟧.means.setup table) 0 ≡ 4294967295) };
 
     ghost helps = { λ helper table producer answer after left. Unit {0} };
 
@@ -127,6 +130,7 @@ impl HelperOn<PlainTable> for Collector {
           subst (λ (v : ServiceView). 0 < length v.taken) (sym stays.1) needs.3,
           ap (λ (v : ServiceView). v.reading) stays.1 ∙ needs.4,
           needs.5 ∙ ap (λ (v : ServiceView). (taken_of v 0).count) (sym stays.1),
+          ap (λ (s : Setup). from_of s 0) step.setup_stays ∙ needs.6,
         ) };
 
     fn help(&mut self, table: &mut PlainTable, producer: u16) -> bool {

@@ -3,13 +3,14 @@ ghost use Rattle.std.specs.Prelude.{◌≡◌, ◌<◌};
 
 use crate::calls::{CLOSE, COLLECT, FINISH, FLUSH, OPEN, PACKET, number, text};
 use crate::collector::Image;
-use crate::setting::{Collected, left_collected};
+use crate::setting::{Collected, FROM, left_collected};
 use commit_body::Patch;
 use std::alloc::Global;
 use std::marker::Brand;
 use std::process::Abort;
 use std::sync::ledger::{Blank, Ledger};
 use std::test::Fail;
+use trace_base::ids::id_of;
 use trace_base::policy::WriterPolicy;
 use trace_base::steps::Steps;
 
@@ -46,9 +47,9 @@ fn packets<R: Abort, L: Ledger>(rt: &R, alloc: Global, blank: Blank) -> Result<[
 /// What a chunk is to have.
 #[derive(Clone, Copy)]
 struct Want {
-    /// Whose script it is of, and its id.
+    /// Whose script it is of, and its position.
     script: usize,
-    id: u32,
+    position: u32,
     count: u16,
     flags: u8,
     front: &'static [u8],
@@ -58,7 +59,7 @@ struct Want {
 impl Want {
     fn is_seen(&self, image: &Image) -> bool {
         let header = image.header;
-        header.chunk_id == self.id
+        header.chunk_id == id_of(FROM, self.position)
             && header.writer_id == 1
             && header.count == self.count
             && header.flags == self.flags
@@ -68,10 +69,10 @@ impl Want {
     }
 }
 
-/// The last patch for chunk 0.
+/// The last patch for the first chunk.
 fn patch(offset: u32, bytes: [u8; 4]) -> Option<Patch> {
     Some(Patch {
-        chunk_id: 0,
+        chunk_id: FROM,
         offset,
         bytes,
         last: true,
@@ -80,7 +81,7 @@ fn patch(offset: u32, bytes: [u8; 4]) -> Option<Patch> {
 
 fn make_want(
     script: usize,
-    id: u32,
+    position: u32,
     count: u16,
     flags: u8,
     front: &'static [u8],
@@ -88,7 +89,7 @@ fn make_want(
 ) -> Want {
     Want {
         script,
-        id,
+        position,
         count,
         flags,
         front,
@@ -145,19 +146,19 @@ fn wants() -> [Want; 9] {
     ]
 }
 
-fn image_of(collected: &[Collected; 4], script: usize, id: u32) -> Option<Image> {
-    *collected.get(script)?.images.get(id as usize)?
+fn image_of(collected: &[Collected; 4], script: usize, position: u32) -> Option<Image> {
+    *collected.get(script)?.images.get(position as usize)?
 }
 
 #[test]
 fn completes_what_was_written(rt: HostRuntime) -> Result<(), Fail> {
     let collected = packets::<_, Brand>(&rt, rt.alloc(), Blank::new(1))?;
     for want in wants() {
-        let seen = match image_of(&collected, want.script, want.id) {
+        let seen = match image_of(&collected, want.script, want.position) {
             Some(image) => want.is_seen(&image),
             None => false,
         };
-        assert!(rt; seen, "script {} chunk {}", want.script, want.id);
+        assert!(rt; seen, "script {} chunk {}", want.script, want.position);
     }
     let counts = collected.map(|one| (one.left.wrong, one.left.begun, one.left.dropped, one.taken));
     assert_eq!(rt;

@@ -12,6 +12,7 @@ use std::alloc::Global;
 use std::process::Abort;
 use std::sync::ledger::Ledger;
 use std::test::Fail;
+use trace_base::ids::id_of;
 use trace_base::policy::{WriterPolicy, WriterSpec};
 use trace_base::steps::Steps;
 use trace_writer::{CallFault, HelperOn, WriterCore};
@@ -42,6 +43,9 @@ pub(crate) const NOTHING: Left = Left {
     front: [0; 10],
 };
 
+/// The id of the writer's first chunk is the greatest one, so that its second chunk has the id 0.
+pub(crate) const FROM: u32 = 4_294_967_295;
+
 /// A writer on one page of so many chunks, and a collector.
 fn set_up(
     alloc: Global,
@@ -60,6 +64,7 @@ fn set_up(
         producer: 1,
         buffer: 1,
         policy,
+        from: FROM,
     };
     let (table, _seats, service) = PlainTable::make(alloc, &producers, &[spec])?;
     let (first, count) = table.chunks_of(1);
@@ -149,7 +154,7 @@ fn add_held(left: Left, table: &mut PlainTable, collector: &mut Collector) -> Le
     let Some(image) = collector.images[left.completed as usize % 4] else {
         return left;
     };
-    if image.header.chunk_id != left.completed {
+    if image.header.chunk_id != id_of(FROM, left.completed) {
         return left;
     }
     let mut front = [0; 10];
@@ -199,7 +204,7 @@ pub(crate) fn left_asking<R: Abort, L: Ledger>(
 #[derive(Clone, Copy)]
 pub(crate) struct Collected {
     pub left: Left,
-    /// The chunks that it took, and the newest four of them, by the rest of their ids.
+    /// The chunks that it took, and the newest four of them, by the rest of their positions.
     pub taken: u32,
     pub images: [Option<Image>; 4],
 }

@@ -3,12 +3,13 @@
 ghost use Rattle.std.specs.Prelude.{◌≡◌, ◌<◌};
 
 use crate::calls::{CLOSE, COLLECT, FINISH, FLUSH, OPEN, PACKET, number, text};
-use crate::setting::{Collected, Left, NOTHING, left_alone, left_collected};
+use crate::setting::{Collected, FROM, Left, NOTHING, left_alone, left_collected};
 use std::alloc::Global;
 use std::marker::Brand;
 use std::process::Abort;
 use std::sync::ledger::{Blank, Ledger};
 use std::test::Fail;
+use trace_base::ids::id_of;
 use trace_base::policy::WriterPolicy;
 use trace_base::steps::Steps;
 use trace_writer::CallFault;
@@ -116,12 +117,15 @@ fn goes_on_where_chunks_are_freed(rt: HostRuntime) -> Result<(), Fail> {
         panic!(rt; "no last chunk");
     };
     let header = last.header;
-    assert_eq!(rt; (header.chunk_id, header.count, header.flags), (24, 1, 1));
+    assert_eq!(rt;
+        (header.chunk_id, header.count, header.flags),
+        (id_of(FROM, 24), 1, 1)
+    );
     assert!(rt; last.front.starts_with(b"\xda\x89\x80\x00xxx"));
     let Some(patch) = last.first_patch else {
         panic!(rt; "no patch");
     };
-    assert_eq!(rt; (patch.chunk_id, patch.offset, patch.last), (0, 6, true));
+    assert_eq!(rt; (patch.chunk_id, patch.offset, patch.last), (FROM, 6, true));
     assert_eq!(rt; patch.bytes, *b"\xd4\x86\x83\x00");
     Ok(())
 }

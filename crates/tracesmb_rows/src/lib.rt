@@ -12,6 +12,8 @@ mod clones;
 mod faults;
 #[cfg(test)]
 mod fields;
+#[cfg(test)]
+mod first_ids;
 pub mod play;
 #[cfg(test)]
 mod rows;

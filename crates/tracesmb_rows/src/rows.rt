@@ -2,14 +2,15 @@
 use crate::play::play;
 use std::test::Fail;
 
-struct Row {
-    input: &'static [u8],
-    status: u8,
-    trace: &'static [u8],
-    text: &'static [u8],
+#[derive(Clone, Copy)]
+pub(crate) struct Row {
+    pub input: &'static [u8],
+    pub status: u8,
+    pub trace: &'static [u8],
+    pub text: &'static [u8],
 }
 
-static ROWS: [Row; 37] = [
+pub(crate) static ROWS: [Row; 37] = [
     // One packet of one number field.
     Row {
         input: b"buffer 64 ring\nproducer 1 4096 14\nwriter 1 1 drop\np 1 8:5\n",

@@ -12,7 +12,7 @@ use trace_base::policy::{FullPolicy, WriterPolicy, WriterSpec};
 const SET_UP: &[u8] = b"buffer 64 ring\nproducer 1 4096 14\nwriter 1 1 drop\n";
 
 /// Whole texts, each with the line that is said of it: none where it is a scenario.
-static WHOLE: [(&[u8], &[u8]); 36] = [
+static WHOLE: [(&[u8], &[u8]); 48] = [
     (b"", b""),
     (b"\n#\xFF\n\n", b""),
     (
@@ -41,7 +41,28 @@ static WHOLE: [(&[u8], &[u8]); 36] = [
     (b"writer 1 1 stall: 2\n", b"line 1: bad line\n"),
     (b"writer 1 1 stall2\n", b"line 1: bad line\n"),
     (b"writer 1 1 drop:2\n", b"line 1: bad line\n"),
-    (b"writer 1 1 drop from 0\n", b"line 1: bad line\n"),
+    (b"writer 1 1 drop from 0\n", b"line 1: no such producer\n"),
+    (
+        b"buffer 4 ring\nproducer 1 4096 1\nwriter 1 1 drop from 0\nwriter 1 1 stall from 4294967295\nwriter 1 1 stall:2 from 7\n",
+        b"",
+    ),
+    (
+        b"writer 1 1 drop from 4294967296\n",
+        b"line 1: number out of range\n",
+    ),
+    (
+        b"writer 1 1 drop from 18446744073709551616\n",
+        b"line 1: number out of range\n",
+    ),
+    (b"writer 1 1 drop from\n", b"line 1: bad line\n"),
+    (b"writer 1 1 drop from \n", b"line 1: bad line\n"),
+    (b"writer 1 1 drop from 00\n", b"line 1: bad line\n"),
+    (b"writer 1 1 drop from 1 \n", b"line 1: bad line\n"),
+    (b"writer 1 1 drop from 1 from 2\n", b"line 1: bad line\n"),
+    (b"writer 1 1 from 1 drop\n", b"line 1: bad line\n"),
+    (b"writer 1 1 drop 1\n", b"line 1: bad line\n"),
+    (b"writer 1 1 drop at 1\n", b"line 1: bad line\n"),
+    (b"producer 1 4096 14 from 1\n", b"line 1: bad line\n"),
     (b"buffer 64 ring \n", b"line 1: bad line\n"),
     (b"buffer 64\n", b"line 1: bad line\n"),
     (b"producer 1 4096 14 1\n", b"line 1: bad line\n"),
@@ -305,7 +326,7 @@ fn counts_up_to_the_limits(rt: HostRuntime) -> Result<(), AllocError> {
 
 /// A scenario with each kind of line.
 const EACH_KIND: &[u8] =
-    b"# x\nbuffer 4 discard\nbuffer 65536 ring\nproducer 64 65536 1\nproducer 1 4096 7\nwriter 2 1 stall\nwriter 1 2 stall:3\nb 1\na 1 900{1:\"hi\"*2 2:7}\nn 1 8\nu 1\ne 1\n\np 2\np 2 1:5\nf 1\nc 2\ns 2\nr 1\nr 2 3\nq\nk 2\nx 2\n";
+    b"# x\nbuffer 4 discard\nbuffer 65536 ring\nproducer 64 65536 1\nproducer 1 4096 7\nwriter 2 1 stall\nwriter 1 2 stall:3 from 4294967295\nb 1\na 1 900{1:\"hi\"*2 2:7}\nn 1 8\nu 1\ne 1\n\np 2\np 2 1:5\nf 1\nc 2\ns 2\nr 1\nr 2 3\nq\nk 2\nx 2\n";
 
 /// How many nodes there are.
 fn count(fields: &Fields<'_>) -> u64 {
@@ -377,12 +398,18 @@ fn keeps_each_kind_of_line(rt: HostRuntime) {
         WriterSpec {
             producer: 2,
             buffer: 1,
-            policy: WriterPolicy::Stalls
+            policy: WriterPolicy::Stalls,
+            from: 0,
         }
     );
     assert_eq!(rt;
-        scenario.writers[1].policy,
-        WriterPolicy::StallsThenDrops { tries: 3 }
+        scenario.writers[1],
+        WriterSpec {
+            producer: 1,
+            buffer: 2,
+            policy: WriterPolicy::StallsThenDrops { tries: 3 },
+            from: 4_294_967_295,
+        }
     );
     assert_eq!(rt; scenario.lines.len(), lines.len());
     let mut walk = scenario.lines.walk();

@@ -1,5 +1,5 @@
 -- A writer as it begins, at a table of one page that nobody has used.
-use Rattle.std.proofs.Common.{◌≡◌, ◌∙◌, ℕ, ◌<◌, Some, List, [], ◌∷◌, Option, slice_get, unwrap_or, refl, sym, ap, subst, arith}
+use Rattle.std.proofs.Common.{◌≡◌, ◌∙◌, ℕ, ◌<◌, Some, List, [], ◌∷◌, Option, slice_get, unwrap_or, sym, ap, subst, arith}
 use Rattle.std.proofs.lemmas.List.{get_or_append_left}
 use Rattle.trace_base.specs.declared.policy.WriterSpec.{WriterSpec}
 use Rattle.trace_base.specs.declared.policy.WriterPolicy.TheVariants.{Drops}
@@ -23,7 +23,7 @@ abbrev pub one_page : Geometry → List ProducerSpec
 one_page geometry = record { pages = 1; geometry = geometry } ∷ []
 
 abbrev pub one_writer : WriterSpec
-one_writer = record { producer = 1; buffer = 1; policy = Drops }
+one_writer = record { producer = 1; buffer = 1; policy = Drops; from = 0 }
 
 abbrev pub fresh_setup : Geometry → Setup
 fresh_setup geometry = setup_of (one_page geometry) (one_writer ∷ [])

@@ -2,7 +2,7 @@
 use Rattle.std.proofs.Common.{◌≡◌, ◌∙◌, ℕ, Bool, Option, if◌then◌else◌, ◌+◌, ◌<◌, ◌≤◌, List, [], ◌∷◌, ◌++◌, length, set, get_or, refl, sym, ap, subst, arith}
 use Rattle.std.proofs.lemmas.Bool.{eq-eqb}
 use Rattle.chunk_plain.specs.declared.setup.ChunkRange.{ChunkRange}
-use Rattle.chunk_plain.specs.Setup.{Setup}
+use Rattle.chunk_plain.specs.Setup.{Setup, from_of}
 use Rattle.chunk_plain.specs.Views.{Content, Found, ServiceView, Taken, none_taken}
 use Rattle.chunk_plain.specs.Steps.{without, looks_at, takes_in, learns, lets_go}
 use Rattle.chunk_plain.specs.Meaning.{Meaning}
@@ -34,6 +34,7 @@ module _ {T W S : Type 0} (means : Meaning T W S) where
     chunks = subst (λ (s : Setup). range.first + range.count ≤ length s.spots) (sym same) was.chunks;
     listed = subst (λ (l : List Taken). 0 < length l) (sym rows) was.listed;
     none_out = reading ∙ was.none_out;
+    from = ap (λ (s : Setup). from_of s 0) same ∙ was.from;
     count = was.count ∙ ap (λ (l : List Taken). (get_or l 0 none_taken).count) (sym rows);
   }
 
@@ -52,5 +53,6 @@ module _ {T W S : Type 0} (means : Meaning T W S) where
         listed = subst (λ (l : List Taken). 0 < length l) (sym rows) more.0;
         none_out = ap (λ (s : ServiceView). s.reading) freed_is ∙ ap (λ (s : ServiceView). without freed s.reading) took
             ∙ none_left (means.service_view old before).reading chunk freed was.none_out freed_same;
+        from = ap (λ (s : Setup). from_of s 0) same ∙ was.from;
         count = ap (λ (n : ℕ). n + 1) was.count ∙ sym more.1 ∙ ap (λ (l : List Taken). (get_or l 0 none_taken).count) (sym rows);
       }

@@ -1,9 +1,10 @@
-//! The collector of one writer's chunks. It counts what it took, and the next chunk has that id.
+//! The collector of one writer's chunks. It counts what it took, and the next chunk has that position.
 ghost use Rattle.std.specs.Prelude.{◌+◌, ◌<◌, length};
 ghost use Rattle.chunk_plain.specs.Meaning.{IsServiceStep};
 ghost use Rattle.writer_speed.specs.Collecting.{IsCollecting};
 
 use chunk_plain::{ChunkRange, Words};
+use trace_base::ids::id_of;
 
 /// Takes the chunk where it is the next one, and lets it go.
 fn try_one<W: Words>(
@@ -21,7 +22,7 @@ fn try_one<W: Words>(
     let Some(more) = taken.checked_add(1) else {
         return taken;
     };
-    match table.take(seat, chunk, 1, taken) {
+    match table.take(seat, chunk, 1, id_of(0, taken)) {
         Err(_) => taken,
         Ok(token) => {
             table.release(seat, token);

@@ -3,7 +3,7 @@
 #![tactic(auto)]
 
 ghost use Rattle.std.specs.Prelude.{◌≡◌, ◌+◌, ◌<◌, ◌≤◌, false, length};
-ghost use Rattle.chunk_plain.specs.declared.tokens.TheConstants.{ID_LIMIT};
+ghost use Rattle.chunk_plain.specs.declared.tokens.TheConstants.{POSITION_LIMIT};
 ghost use Rattle.trace_writer.specs.declared.ids.TheConstants.{PACKET_IDS};
 ghost use Rattle.trace_writer.specs.Core.{in_packet};
 ghost use Rattle.writer_speed.specs.Collecting.{IsCollecting};
@@ -48,7 +48,7 @@ fn write_round<W: Words, L: Ledger>(
 ) -> u32
     requires ready { IsReady W.means table.old writer.old }
     requires outside { in_packet (W.means.view table.old writer.old.seat) ≡ false }
-    requires ids { length (W.means.view table.old writer.old.seat).begun + PACKET_IDS ≤ ID_LIMIT }
+    requires ids { length (W.means.view table.old writer.old.seat).begun + PACKET_IDS ≤ POSITION_LIMIT }
     requires collects { IsCollecting W.means table.old service.old range taken }
     ensures ready { IsReady W.means table.new writer.new }
     ensures outside { in_packet (W.means.view table.new writer.new.seat) ≡ false }
@@ -113,6 +113,7 @@ fn measure<L: Ledger>(alloc: Global, packets: u32, blank: Blank) -> Option<Tally
         producer: 1,
         buffer: 1,
         policy: WriterPolicy::Drops,
+        from: 0,
     };
     let Ok((mut table, _seats, mut service)) = PlainTable::make(alloc, &producers, &[spec]) else {
         return None;

@@ -1,6 +1,6 @@
 //! The packet that is written again and again: a number, and a message with a text and a number.
 ghost use Rattle.std.specs.Prelude.{◌≡◌, ◌+◌, ◌≤◌, true, false, length};
-ghost use Rattle.chunk_plain.specs.declared.tokens.TheConstants.{ID_LIMIT};
+ghost use Rattle.chunk_plain.specs.declared.tokens.TheConstants.{POSITION_LIMIT};
 ghost use Rattle.trace_writer.specs.declared.ids.TheConstants.{PACKET_IDS};
 ghost use Rattle.trace_base.specs.declared.limits.TheConstants.{MAX_FIELD, MAX_INPUT};
 ghost use Rattle.trace_writer.specs.Core.{in_packet};
@@ -84,7 +84,7 @@ fn begin_packet<W: Words, L: Ledger>(
 )
     requires ready { IsReady W.means table.old writer.old }
     requires outside { in_packet (W.means.view table.old writer.old.seat) ≡ false }
-    requires ids { length (W.means.view table.old writer.old.seat).begun + PACKET_IDS ≤ ID_LIMIT }
+    requires ids { length (W.means.view table.old writer.old.seat).begun + PACKET_IDS ≤ POSITION_LIMIT }
     ensures goes { GoesOn W.means table.old writer.old table.new writer.new }
     ensures inside { in_packet (W.means.view table.new writer.new.seat) ≡ true }
 {
@@ -103,7 +103,7 @@ pub fn write_packet<W: Words, L: Ledger>(
 )
     requires ready { IsReady W.means table.old writer.old }
     requires outside { in_packet (W.means.view table.old writer.old.seat) ≡ false }
-    requires ids { length (W.means.view table.old writer.old.seat).begun + PACKET_IDS ≤ ID_LIMIT }
+    requires ids { length (W.means.view table.old writer.old.seat).begun + PACKET_IDS ≤ POSITION_LIMIT }
     ensures goes { GoesOn W.means table.old writer.old table.new writer.new }
     ensures outside { in_packet (W.means.view table.new writer.new.seat) ≡ false }
 {

@@ -1,4 +1,4 @@
-use Rattle.std.proofs.Common.{◌≡◌, ◌∙◌, ℕ, ◌<◌, Option, length, sym, ap, subst, unwrap_or, arith}
+use Rattle.std.proofs.Common.{◌≡◌, ◌∙◌, ℕ, ◌<◌, Option, sym, ap, subst, unwrap_or, arith}
 use Rattle.chunk_plain.specs.Setup.{Setup, range_of}
 use Rattle.chunk_plain.specs.World.{World, writer, nowhere}
 use Rattle.chunk_plain.specs.declared.setup.ChunkRange.{ChunkRange}

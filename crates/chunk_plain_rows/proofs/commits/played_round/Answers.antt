@@ -1,4 +1,4 @@
-use Rattle.std.proofs.Common.{◌≡◌, ◌-◌, ◌∙◌, ◌<◌, ◌≤◌, ℕ, false, List, [], ◌∷◌, length, Option, unwrap_or, get_or, subst, sym, refl, ap, arith}
+use Rattle.std.proofs.Common.{◌≡◌, ◌-◌, ◌∙◌, ◌<◌, ◌≤◌, ℕ, false, List, [], ◌∷◌, length, Option, unwrap_or, subst, sym, refl, ap, arith}
 use Rattle.trace_base.specs.declared.policy.WriterSpec.{WriterSpec}
 use Rattle.trace_base.specs.declared.policy.WriterPolicy.TheVariants.{Drops}
 use Rattle.trace_base.specs.declared.policy.FullPolicy.TheVariants.{Ring}
@@ -18,7 +18,7 @@ pub make-requires-2-clause-fits : goal.make-requires-2-clause-fits
 make-requires-2-clause-fits c place low =
     let geometry = c.in_ok-geometry.geometry in
     let producers : List ProducerSpec = record { pages = 1; geometry = geometry } ∷ [] in
-    let writers : List WriterSpec = record { producer = 1; buffer = 1; policy = Drops } ∷ [] in
+    let writers : List WriterSpec = record { producer = 1; buffer = 1; policy = Drops; from = 7 } ∷ [] in
     let buffers : List BufferSpec = record { size = 65536; policy = Ring } ∷ [] in
     let setup : Setup = setup_of producers writers in
     let first : 0 ≡ place = omega arith in

@@ -1,9 +1,10 @@
-use Rattle.std.proofs.Common.{ℕ, ◌-◌, ◌<◌, ◌∙◌, length, subst, sym, ap, refl, arith, None}
+use Rattle.std.proofs.Common.{◌<◌, ◌∙◌, length, subst, sym, ap, arith, None}
 use Rattle.page_geometry.specs.Header.{packed}
 use Rattle.chunk_plain.specs.Setup.{Setup, spot}
 use Rattle.chunk_plain.specs.Words.{KeepsSealed, taken_content}
 use Rattle.chunk_plain.proofs.Holding.{takes_reads}
 use Rattle.chunk_plain.proofs.LayingLemmas.{chunk_inside}
+use Rattle.chunk_plain.specs.Views.{taken_of}
 use Rattle.chunk_plain_rows.proofs.rounds.scrape_and_take.Goals as goal
 
 pub finish-requires-clause-sealed : goal.finish-requires-clause-sealed
@@ -13,7 +14,7 @@ finish-requires-clause-sealed g c =
     let looked = c.look-seen.ensures.step.writers_stay seat sits in
     let loaded = c.load.ensures.step.writers_stay seat looked.0 in
     let same = loaded.1 ∙ looked.1 in
-    subst (λ v. KeepsSealed v c.in_ok-held.held.id c.in_ok-held.held.body.payload.items) (sym same) c.in_ok-held.ensures.sealed
+    subst (λ v. KeepsSealed v c.in_ok-held.held.position c.in_ok-held.held.body.payload.items) (sym same) c.in_ok-held.ensures.sealed
 
 pub take-requires-clause-chunk : goal.take-requires-clause-chunk
 take-requires-clause-chunk g c =
@@ -44,4 +45,4 @@ pub release-requires-clause-reading : goal.release-requires-clause-reading
 release-requires-clause-reading g c =
     let taken = c.in-Ok.ensures.taken in
     takes_reads (g.W.Words.means.service_view c.finish.new.table c.load.new.seat) (g.W.Words.means.service_view c.take.new.self c.take.new.seat) c.args.chunk c.in-Ok.taken.chunk
-    taken.word (packed c.in-Ok.taken.header) 0 None (taken_content 0 c.in-Ok.taken) taken.view taken.chunk_is
+    taken.word (packed c.in-Ok.taken.header) 0 None (taken_content (g.W.Words.means.setup c.finish.new.table) 0 (taken_of (g.W.Words.means.service_view c.finish.new.table c.load.new.seat) 0).count c.in-Ok.taken) taken.view taken.chunk_is

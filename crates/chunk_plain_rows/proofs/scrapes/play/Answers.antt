@@ -1,9 +1,8 @@
-use Rattle.std.proofs.Common.{◌≡◌, ◌∙◌, ◌<◌, ℕ, false, length, subst, sym, ap}
-use Rattle.chunk_plain.specs.Setup.{Setup, spot, producer_of}
-use Rattle.chunk_plain.specs.Views.{ServiceView, WriterView}
+use Rattle.std.proofs.Common.{◌≡◌, ◌∙◌, ◌<◌, ℕ, List, length, subst, sym, ap}
+use Rattle.chunk_plain.specs.Setup.{Setup, spot, id_at}
+use Rattle.chunk_plain.specs.Views.{BegunChunk, ServiceView, WriterView}
 use Rattle.chunk_plain.specs.Drafts.{IsHolding}
 use Rattle.chunk_plain.specs.Words.{KeepsSealed}
-use Rattle.chunk_plain.proofs.SeatSteps.{services_follow}
 use Rattle.service_core.specs.Agreement.{ServiceAgrees, IsOpen, is_closed}
 use Rattle.chunk_plain_rows.proofs.scrapes.play.Goals as goal
 
@@ -42,7 +41,7 @@ pub finish-requires-clause-holding : goal.finish-requires-clause-holding
 finish-requires-clause-holding g c =
     let one = c.scrape-taken.ensures.step.writers_stay c.write.new.seat c.in_ok-held.ensures.step.seat_stays in
     let two = c.read_buffer.ensures.step.writers_stay c.write.new.seat one.0 in
-    subst (λ (v : WriterView). IsHolding v c.in_ok-held.held.chunk c.in_ok-held.held.id) (sym (two.1 ∙ one.1)) c.in_ok-held.ensures.holding
+    subst (λ (v : WriterView). IsHolding v c.in_ok-held.held.chunk c.in_ok-held.held.position) (sym (two.1 ∙ one.1)) c.in_ok-held.ensures.holding
 
 pub finish-requires-clause-size : goal.finish-requires-clause-size
 finish-requires-clause-size g c =
@@ -53,7 +52,7 @@ pub finish-requires-clause-sealed : goal.finish-requires-clause-sealed
 finish-requires-clause-sealed g c =
     let one = c.scrape-taken.ensures.step.writers_stay c.write.new.seat c.in_ok-held.ensures.step.seat_stays in
     let two = c.read_buffer.ensures.step.writers_stay c.write.new.seat one.0 in
-    subst (λ (v : WriterView). KeepsSealed v c.in_ok-held.held.id c.in_ok-held.held.body.payload.items) (sym (two.1 ∙ one.1)) c.in_ok-held.ensures.sealed
+    subst (λ (v : WriterView). KeepsSealed v c.in_ok-held.held.position c.in_ok-held.held.body.payload.items) (sym (two.1 ∙ one.1)) c.in_ok-held.ensures.sealed
 
 pub collect-taken_later-requires-clause-serves : goal.collect-taken_later-requires-clause-serves
 collect-taken_later-requires-clause-serves g c = (c.finish.ensures.step.service_stays c.read_buffer.new.self.seat c.read_buffer.ensures.step.seat_stays).0
@@ -87,3 +86,9 @@ pub read_buffer-requires-2-clause-reads : goal.read_buffer-requires-2-clause-rea
 read_buffer-requires-2-clause-reads g c =
     c.collect-taken_later.ensures.step.reads_stay (c.finish.ensures.step.reads_stay c.read_buffer.new.self.seat
     (c.read_buffer.ensures.step.reads_stay (c.scrape-taken.ensures.step.reads_stay (c.in_ok-held.ensures.step.reads_stay c.args.service.now.seat c.requires.reads))))
+
+pub write-requires-clause-id : goal.write-requires-clause-id
+write-requires-clause-id g c =
+    let setup = g.W.Words.means.setup c.args.table.now in
+    let place = g.W.Words.means.place c.args.seat.now in
+    c.requires.id ∙ ap (id_at setup place) (sym (ap (λ (l : List BegunChunk). length l) c.requires.begun))

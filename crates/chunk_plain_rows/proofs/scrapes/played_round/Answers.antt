@@ -1,10 +1,11 @@
-use Rattle.std.proofs.Common.{◌≡◌, ◌-◌, ◌∙◌, ◌<◌, ◌≤◌, ℕ, false, List, [], ◌∷◌, length, Option, unwrap_or, get_or, subst, sym, refl, ap, arith}
+use Rattle.std.proofs.Common.{◌≡◌, ◌-◌, ◌∙◌, ◌<◌, ◌≤◌, ℕ, false, List, [], ◌∷◌, length, Option, unwrap_or, subst, sym, refl, ap, arith}
 use Rattle.trace_base.specs.declared.policy.WriterSpec.{WriterSpec}
 use Rattle.trace_base.specs.declared.policy.WriterPolicy.TheVariants.{Drops}
 use Rattle.trace_base.specs.declared.policy.FullPolicy.TheVariants.{Ring}
+use Rattle.trace_base.proofs.IdLemmas.{id_first}
 use Rattle.page_geometry.specs.Sizes.{record_size, payload_size, chunk_size}
 use Rattle.chunk_plain.specs.declared.setup.ProducerSpec.{ProducerSpec}
-use Rattle.chunk_plain.specs.Setup.{Setup, size_of, producer_of}
+use Rattle.chunk_plain.specs.Setup.{Setup, size_of, producer_of, id_at}
 use Rattle.chunk_plain.specs.Laying.{setup_of}
 use Rattle.chunk_plain.specs.World.{World, nowhere}
 use Rattle.trace_buffer.specs.declared.answers.BufferSpec.{BufferSpec}
@@ -18,7 +19,7 @@ unfolding payload_size chunk_size
 make-requires-2-clause-fits c place low =
     let geometry = c.in_ok-geometry.geometry in
     let producers : List ProducerSpec = record { pages = 1; geometry = geometry } ∷ [] in
-    let writers : List WriterSpec = record { producer = 1; buffer = 1; policy = Drops } ∷ [] in
+    let writers : List WriterSpec = record { producer = 1; buffer = 1; policy = Drops; from = 4294967295 } ∷ [] in
     let buffers : List BufferSpec = record { size = 4096; policy = Ring } ∷ [] in
     let setup : Setup = setup_of producers writers in
     let first : 0 ≡ place = omega arith in
@@ -37,3 +38,6 @@ play-requires-clause-agrees c =
 pub play-requires-clause-open : goal.play-requires-clause-open
 play-requires-clause-open c =
     subst (λ (s : Setup). (place : ℕ) → place < length s.writers → is_closed s c.in_ok-service.service place ≡ false) (sym c.in_ok-table.ensures.setup) c.in_ok-service.ensures.open
+
+pub play-requires-clause-id : goal.play-requires-clause-id
+play-requires-clause-id c = sym (ap (λ (s : Setup). id_at s 0 0) c.in_ok-table.ensures.setup ∙ id_first 4294967295 (omega arith))

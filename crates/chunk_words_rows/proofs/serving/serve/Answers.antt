@@ -1,12 +1,14 @@
-use Rattle.std.proofs.Common.{◌≡◌, ◌∙◌, subst, sym, arith, None, vec_len}
+use Rattle.std.proofs.Common.{◌≡◌, ◌∙◌, ℕ, subst, sym, ap, arith, None, vec_len}
 use Rattle.page_geometry.specs.Header.{packed}
 use Rattle.chunk_plain.specs.Setup.{spot}
 use Rattle.chunk_plain.specs.Words.{taken_content}
 use Rattle.chunk_plain.proofs.Holding.{takes_reads}
+use Rattle.chunk_plain.specs.Views.{taken_of}
 use Rattle.chunk_words.specs.Knows.{service_of}
 use Rattle.chunk_words.specs.Sits.{setup_in}
 use Rattle.chunk_words_rows.proofs.Takings.{looked, loaded, served}
 use Rattle.chunk_words_rows.proofs.serving.serve.Goals as goal
+use Rattle.trace_base.specs.Ids.{id_of}
 
 pub look-requires-clause-chunk : goal.look-requires-clause-chunk
 look-requires-clause-chunk c = c.requires.page.inside c.args.chunk c.requires.chunk
@@ -27,13 +29,14 @@ pub take-requires-clause-id : goal.take-requires-clause-id
 take-requires-clause-id c =
     let looks = c.look.ensures.view in
     let one = looked c.args.seat.now c.look.new.seat c.args.chunk _ _ c.args.next looks.found c.requires.next looks.view in
-    sym (loaded c.look.new.seat c.load.new.seat c.args.next one c.load.ensures.view).count_is
+    let count = (loaded c.look.new.seat c.load.new.seat c.args.next one c.load.ensures.view).count_is in
+    c.id_of.ensures ∙ ap (id_of 4294967000) (sym count) ∙ ap (λ (f : ℕ). id_of f (taken_of (service_of c.load.new.seat.seat.me.0) 0).count) (sym (c.requires.page.froms 0 (omega arith)))
 
 pub release-requires-clause-reading : goal.release-requires-clause-reading
 release-requires-clause-reading c =
     let taken = c.in-Ok.ensures.taken in
     takes_reads (service_of c.load.new.seat.seat.me.0) (service_of c.take.new.seat.seat.me.0) c.args.chunk c.in-Ok.taken.chunk
-    taken.word (packed c.in-Ok.taken.header) 0 None (taken_content 0 c.in-Ok.taken) taken.view taken.chunk_is
+    taken.word (packed c.in-Ok.taken.header) 0 None (taken_content (setup_in c.args.host.now) 0 (taken_of (service_of c.load.new.seat.seat.me.0) 0).count c.in-Ok.taken) taken.view taken.chunk_is
 
 pub release-requires-clause-size : goal.release-requires-clause-size
 release-requires-clause-size c =
@@ -54,5 +57,5 @@ returns-in-Ok-clause-next c =
     let one = looked c.args.seat.now c.look.new.seat c.args.chunk _ _ c.args.next looks.found c.requires.next looks.view in
     let two = loaded c.look.new.seat c.load.new.seat c.args.next one c.load.ensures.view in
     let all = c.load.ensures.seat.waits.serving.writers in let many = c.requires.page.writers in
-    served c.load.new.seat c.take.new.seat c.release.new.seat c.args.chunk c.in-Ok.taken.chunk taken.word (packed c.in-Ok.taken.header) c.args.next None (taken_content 0 c.in-Ok.taken)
+    served c.load.new.seat c.take.new.seat c.release.new.seat c.args.chunk c.in-Ok.taken.chunk taken.word (packed c.in-Ok.taken.header) c.args.next None (taken_content (setup_in c.args.host.now) 0 (taken_of (service_of c.load.new.seat.seat.me.0) 0).count c.in-Ok.taken)
     two (omega (arith, all, many)) taken.view taken.chunk_is c.release.ensures.view

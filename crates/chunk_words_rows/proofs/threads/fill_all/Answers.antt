@@ -1,5 +1,5 @@
-use Rattle.std.proofs.Common.{◌%◌, length, subst, sym, ap, arith}
-use Rattle.chunk_plain.specs.Setup.{Setup, IsChunkOf, producer_of}
+use Rattle.std.proofs.Common.{◌%◌, ◌∙◌, length, subst, sym, ap, arith}
+use Rattle.chunk_plain.specs.Setup.{Setup, IsChunkOf, producer_of, from_of}
 use Rattle.chunk_plain.specs.Views.{WriterView}
 use Rattle.chunk_plain.specs.Owned.{held_count}
 use Rattle.chunk_plain.proofs.SeatSteps.{stays, steps_follow}
@@ -26,11 +26,11 @@ fill-won-requires-clause-chunk g c =
 pub fill-won-requires-clause-none_held : goal.fill-won-requires-clause-none_held
 fill-won-requires-clause-none_held g c = c.loop-round.invariant.none_held
 
-pub fill-won-requires-clause-id : goal.fill-won-requires-clause-id
-fill-won-requires-clause-id g c = c.loop-round.invariant.next
+pub fill-won-requires-clause-next : goal.fill-won-requires-clause-next
+fill-won-requires-clause-next g c = c.loop-round.invariant.next
 
-pub fill-won-requires-clause-id_fits : goal.fill-won-requires-clause-id_fits
-fill-won-requires-clause-id_fits g c = let most = c.loop-round.invariant.most in let less = c.loop-round-test.true in let ended = c.loop-round.auto.round-end in let few = c.requires.few in omega arith
+pub fill-won-requires-clause-few : goal.fill-won-requires-clause-few
+fill-won-requires-clause-few g c = let most = c.loop-round.invariant.most in let less = c.loop-round-test.true in let ended = c.loop-round.auto.round-end in let few = c.requires.few in omega arith
 
 pub loop-round-preserved : goal.loop-round-preserved
 loop-round-preserved g c = record {
@@ -39,3 +39,8 @@ loop-round-preserved g c = record {
   none_held = c.fill-won.ensures.none_held;
   most = let most = c.loop-round.invariant.most in let more = c.fill-won.ensures.most in omega arith;
 }
+
+pub fill-won-requires-clause-from : goal.fill-won-requires-clause-from
+fill-won-requires-clause-from g c =
+    let step = c.loop-round.invariant.step in
+    ap (λ (s : Setup). from_of s (g.W.Words.means.place c.loop-round.seat)) step.setup_stays ∙ ap (from_of (g.W.Words.means.setup c.args.table.now)) step.place_stays ∙ c.requires.from

@@ -1,13 +1,14 @@
-use Rattle.std.proofs.Common.{◌≡◌, ℕ, ◌<◌, ◌∙◌, length, subst, sym, ap, arith}
+use Rattle.std.proofs.Common.{◌≡◌, ℕ, ◌<◌, ◌∙◌, length, subst, sym, refl, ap, arith}
 use Rattle.chunk_plain.specs.declared.tokens.Held.{Held as HeldToken}
 use Rattle.chunk_plain.specs.Payload.{byte_in}
-use Rattle.chunk_plain.specs.Setup.{IsChunkOf, producer_of}
+use Rattle.chunk_plain.specs.Setup.{IsChunkOf, producer_of, from_of}
 use Rattle.chunk_plain.specs.Views.{Draft, WriterView}
 use Rattle.chunk_plain.specs.Drafts.{draft_at, published}
 use Rattle.chunk_plain.specs.Words.{HasClaimed}
 use Rattle.chunk_plain.proofs.Holding.{claims_has, begins_holds, redrafts_holds, published_more}
 use Rattle.chunk_words.specs.Sits.{setup_in, known_by}
 use Rattle.chunk_words_rows.proofs.words.filled.Goals as goal
+use Rattle.trace_base.specs.Ids.{id_of}
 
 pub claim_try-requires-clause-chunk : goal.claim_try-requires-clause-chunk
 claim_try-requires-clause-chunk c =
@@ -23,39 +24,37 @@ begin-held-requires-clause-claimed c =
 pub begin-held-requires-clause-id : goal.begin-held-requires-clause-id
 begin-held-requires-clause-id c =
     let won = c.in_ok-claimed.ensures.won in
-    sym (ap (λ (v : WriterView). length v.begun) won.view ∙ ap (λ (v : WriterView). length v.begun) c.requires.writer.2)
+    let none = ap (λ (v : WriterView). length v.begun) won.view ∙ ap (λ (v : WriterView). length v.begun) c.requires.writer.2 in
+    let count : ℕ = length (known_by c.claim_try.new.seat).begun in
+    let place_is = c.in_ok-claimed.ensures.place ∙ c.requires.writer.0 in
+    let from_is = ap (from_of (setup_in c.args.host.now)) place_is ∙ c.requires.page.froms 0 (omega arith) in
+    c.id_of.ensures ∙ ap (id_of 4294967000) (sym none) ∙ ap (λ (f : ℕ). id_of f count) (sym from_is)
 
 pub publish-requires-clause-held : goal.publish-requires-clause-held
 publish-requires-clause-held c =
-    let won = c.in_ok-claimed.ensures.won in let held = c.begin-held.result in
-    begins_holds (setup_in c.args.host.now) (known_by c.claim_try.new.seat) (known_by c.begin-held.new.seat) c.in_ok-claimed.claimed.chunk 0 held.chunk held.id
-    c.begin-held.ensures.view
-    (sym (ap (λ (v : WriterView). length v.begun) won.view ∙ ap (λ (v : WriterView). length v.begun) c.requires.writer.2))
-    c.begin-held.ensures.held.chunk_is c.begin-held.ensures.held.id_is
+    let held = c.begin-held.result in
+    begins_holds (setup_in c.args.host.now) (known_by c.claim_try.new.seat) (known_by c.begin-held.new.seat) c.in_ok-claimed.claimed.chunk (length (known_by c.claim_try.new.seat).begun) held.chunk held.position
+    c.begin-held.ensures.view refl c.begin-held.ensures.held.chunk_is c.begin-held.ensures.held.position_is
 
 pub complete-requires-clause-held : goal.complete-requires-clause-held
 complete-requires-clause-held c =
-    let won = c.in_ok-claimed.ensures.won in let held = c.begin-held.result in
+    let held = c.begin-held.result in
     let old = known_by c.begin-held.new.seat in let new = known_by c.publish.new.seat in
-    let holding = begins_holds (setup_in c.args.host.now) (known_by c.claim_try.new.seat) old c.in_ok-claimed.claimed.chunk 0 held.chunk held.id
-    c.begin-held.ensures.view
-    (sym (ap (λ (v : WriterView). length v.begun) won.view ∙ ap (λ (v : WriterView). length v.begun) c.requires.writer.2))
-    c.begin-held.ensures.held.chunk_is c.begin-held.ensures.held.id_is in
+    let holding = begins_holds (setup_in c.args.host.now) (known_by c.claim_try.new.seat) old c.in_ok-claimed.claimed.chunk (length (known_by c.claim_try.new.seat).begun) held.chunk held.position
+    c.begin-held.ensures.view refl c.begin-held.ensures.held.chunk_is c.begin-held.ensures.held.position_is in
     let bytes = c.publish.ensures.view in
-    let draft : Draft = record (draft_at old held.id) { words = bytes.words } in
+    let draft : Draft = record (draft_at old held.position) { words = bytes.words } in
     redrafts_holds old new held c.publish.new.held draft bytes.view c.publish.ensures.held holding
 
 pub complete-requires-clause-published : goal.complete-requires-clause-published
 complete-requires-clause-published c =
-    let won = c.in_ok-claimed.ensures.won in let held = c.begin-held.result in
+    let held = c.begin-held.result in
     let old = known_by c.begin-held.new.seat in let new = known_by c.publish.new.seat in
-    let holding = begins_holds (setup_in c.args.host.now) (known_by c.claim_try.new.seat) old c.in_ok-claimed.claimed.chunk 0 held.chunk held.id
-    c.begin-held.ensures.view
-    (sym (ap (λ (v : WriterView). length v.begun) won.view ∙ ap (λ (v : WriterView). length v.begun) c.requires.writer.2))
-    c.begin-held.ensures.held.chunk_is c.begin-held.ensures.held.id_is in
+    let holding = begins_holds (setup_in c.args.host.now) (known_by c.claim_try.new.seat) old c.in_ok-claimed.claimed.chunk (length (known_by c.claim_try.new.seat).begun) held.chunk held.position
+    c.begin-held.ensures.view refl c.begin-held.ensures.held.chunk_is c.begin-held.ensures.held.position_is in
     let bytes = c.publish.ensures.view in
     let copy = held.body.payload.items in
     let joined = held.body.payload.ok.0 in
     let size : c.len-size.result ≡ length copy = omega (arith, c.len-size.ensures) in
-    subst (λ (h : HeldToken). (j : ℕ) → j < length h.body.payload.items → published new h.id j ≡ byte_in h.body.payload.items j) (sym c.publish.ensures.held)
-    (λ j below. published_more old new held.chunk held.id 0 c.len-size.result copy holding bytes (omega arith) (omega arith) (λ i less. absurd (omega arith)) j (omega arith))
+    subst (λ (h : HeldToken). (j : ℕ) → j < length h.body.payload.items → published new h.position j ≡ byte_in h.body.payload.items j) (sym c.publish.ensures.held)
+    (λ j below. published_more old new held.chunk held.position 0 c.len-size.result copy holding bytes (omega arith) (omega arith) (λ i less. absurd (omega arith)) j (omega arith))

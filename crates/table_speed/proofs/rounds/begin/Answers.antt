@@ -1,11 +1,12 @@
-use Rattle.std.proofs.Common.{◌≡◌, ◌∙◌, ap, length, subst, sym}
-use Rattle.chunk_plain.specs.Setup.{spot}
+use Rattle.std.proofs.Common.{◌≡◌, ◌∙◌, ℕ, refl, ap, length, subst, sym}
+use Rattle.chunk_plain.specs.Setup.{spot, from_of}
 use Rattle.chunk_plain.specs.Views.{WriterView}
 use Rattle.chunk_plain.specs.Words.{HasClaimed}
 use Rattle.chunk_plain.proofs.Holding.{claims_has}
 use Rattle.chunk_words.specs.Sits.{setup_in, known_by}
 use Rattle.table_speed.proofs.HeldLemmas.{just_begun}
 use Rattle.table_speed.proofs.rounds.begin.Goals as goal
+use Rattle.trace_base.specs.Ids.{id_of}
 
 pub begin-requires-clause-claimed : goal.begin-requires-clause-claimed
 begin-requires-clause-claimed c =
@@ -16,6 +17,14 @@ begin-requires-clause-claimed c =
 pub returns-clause-held : goal.returns-clause-held
 returns-clause-held c =
     let won = c.in_ok-claimed.ensures.won in
-    just_begun c.args.host.now (known_by c.claim_try.new.seat) c.begin.new.seat c.in_ok-claimed.claimed.chunk c.args.id c.begin.result c.begin.ensures.seat
-    (c.requires.id ∙ sym (ap (λ (v : WriterView). length v.begun) won.view)) (subst (λ k. (spot (setup_in c.args.host.now) k).payload_size ≡ 284) (sym c.in_ok-claimed.ensures.chunk) c.requires.size)
+    just_begun c.args.host.now (known_by c.claim_try.new.seat) c.begin.new.seat c.in_ok-claimed.claimed.chunk (length (known_by c.claim_try.new.seat).begun) c.begin.result c.begin.ensures.seat
+    refl (subst (λ k. (spot (setup_in c.args.host.now) k).payload_size ≡ 284) (sym c.in_ok-claimed.ensures.chunk) c.requires.size)
     c.begin.ensures.held c.begin.ensures.view
+
+pub begin-requires-clause-id : goal.begin-requires-clause-id
+begin-requires-clause-id c =
+    let won = c.in_ok-claimed.ensures.won in
+    let setup = setup_in c.args.host.now in
+    let count : ℕ = length (known_by c.claim_try.new.seat).begun in
+    let from_is = ap (from_of setup) c.in_ok-claimed.ensures.place ∙ c.requires.from in
+    c.id_of.ensures ∙ ap (id_of 0) (c.requires.position ∙ sym (ap (λ (v : WriterView). length v.begun) won.view)) ∙ ap (λ (f : ℕ). id_of f count) (sym from_is)

@@ -13,7 +13,7 @@ use Rattle.trace_writer_rows.proofs.setting.set_up.Goals as goal
 pub returns-clause-agrees : goal.returns-clause-agrees
 returns-clause-agrees c =
     let producer : ProducerSpec = record { pages = 1; geometry = c.in_ok-geometry.geometry } in
-    let spec : WriterSpec = record { producer = 1; buffer = 1; policy = c.args.policy } in
+    let spec : WriterSpec = record { producer = 1; buffer = 1; policy = c.args.policy; from = 4294967295 } in
     let setup : Setup = setup_of (producer ∷ []) (spec ∷ []) in
     let setup_is : c.in_ok-table.table.layout ≡ setup = c.in_ok-table.ensures.setup in
     let core = c.make-writer.result in

@@ -1,10 +1,19 @@
+use Rattle.std.proofs.Common.{ℕ, ◌∙◌, sym, ap}
+use Rattle.trace_base.specs.Ids.{id_of}
 use Rattle.page_geometry.specs.Header.{packed}
 use Rattle.chunk_plain.specs.Words.{taken_content}
 use Rattle.chunk_plain.proofs.Holding.{takes_reads}
+use Rattle.chunk_plain.specs.Views.{taken_of}
 use Rattle.writer_speed.proofs.collector.try_one.Goals as goal
 
 pub release-requires-clause-reading : goal.release-requires-clause-reading
 release-requires-clause-reading g c =
     let taken = c.in-Ok.ensures.taken in
     takes_reads (g.W.Words.means.service_view c.args.table.now c.args.seat.now) (g.W.Words.means.service_view c.take.new.self c.take.new.seat) c.args.chunk c.in-Ok.token.chunk
-    taken.word (packed c.in-Ok.token.header) 0 _ (taken_content 0 c.in-Ok.token) taken.view taken.chunk_is
+    taken.word (packed c.in-Ok.token.header) 0 _ (taken_content (g.W.Words.means.setup c.args.table.now) 0 (taken_of (g.W.Words.means.service_view c.args.table.now c.args.seat.now) 0).count c.in-Ok.token) taken.view taken.chunk_is
+
+pub take-requires-clause-id : goal.take-requires-clause-id
+take-requires-clause-id g c =
+    let collects = c.requires.collects in
+    c.id_of.ensures ∙ ap (id_of 0) collects.count
+    ∙ ap (λ (f : ℕ). id_of f (taken_of (g.W.Words.means.service_view c.args.table.now c.args.seat.now) 0).count) (sym collects.from)

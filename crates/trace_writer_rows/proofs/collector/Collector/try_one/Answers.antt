@@ -1,14 +1,16 @@
-use Rattle.std.proofs.Common.{◌∙◌}
+use Rattle.std.proofs.Common.{◌∙◌, ℕ, sym, ap}
 use Rattle.page_geometry.specs.Header.{packed}
 use Rattle.chunk_plain.specs.Words.{taken_content}
 use Rattle.chunk_plain.proofs.Holding.{takes_reads}
+use Rattle.chunk_plain.specs.Views.{taken_of}
 use Rattle.trace_writer_rows.proofs.collector.Collector.try_one.Goals as goal
+use Rattle.trace_base.specs.Ids.{id_of}
 
 pub release-requires-clause-reading : goal.release-requires-clause-reading
 release-requires-clause-reading c =
     let taken = c.in-Ok.ensures.taken in
     takes_reads c.args.table.now.told.world.service c.take.new.self.told.world.service c.args.chunk c.in-Ok.token.chunk
-    taken.word (packed c.in-Ok.token.header) 0 _ (taken_content 0 c.in-Ok.token) taken.view taken.chunk_is
+    taken.word (packed c.in-Ok.token.header) 0 _ (taken_content c.args.table.now.layout 0 (taken_of c.args.table.now.told.world.service 0).count c.in-Ok.token) taken.view taken.chunk_is
 
 pub returns-clause-leaves : goal.returns-clause-leaves
 returns-clause-leaves c =
@@ -20,3 +22,8 @@ returns-clause-leaves c =
           let second = two.writers_stay seat first.0 in
           (second.0, second.1 ∙ first.1);
     }
+
+pub take-requires-clause-id : goal.take-requires-clause-id
+take-requires-clause-id c =
+    let needs = c.requires.needs in
+    c.id_of.ensures ∙ ap (id_of 4294967295) needs.5 ∙ ap (λ (f : ℕ). id_of f (taken_of c.args.table.now.told.world.service 0).count) (sym needs.6)
