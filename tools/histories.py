@@ -302,7 +302,7 @@ class HistoryMaker:
         if record is None:
             return Patch(self.chunk_id(sequence), 4, four_bytes(self.random.randrange(300)), self.chance(.6))
         last = record.fragments[-1]
-        return Patch(record.chunk_id, last.offset + self.pick(0, 0, 0, 1, -1, 2), four_bytes(self.random.randrange(300)), self.chance(.6))
+        return Patch(record.position, last.offset + self.pick(0, 0, 0, 1, -1, 2), four_bytes(self.random.randrange(300)), self.chance(.6))
 
 
 def buffers_of(seed):
@@ -360,9 +360,9 @@ def statement_of(name, buffer, notes, counts):
     for state in states:
         for word, value in zip(('delivered', 'dropped', 'lost', 'cut'), state[2:]):
             counts[word] += value
-    places = [[one.sequence.number, one.chunk_id, one.at] for one in buffer.live]
+    places = [[one.sequence.number, one.position, one.at] for one in buffer.live]
     fixed = [notes.fixed.get(one.number, []) for one in buffer.sequences.values()]
-    fresh = listed(f'fresh {one.number} {one.record_size}' for one in buffer.sequences.values())
+    fresh = listed(f'fresh {one.number} {one.record_size} {one.first_id}' for one in buffer.sequences.values())
     policy = {'ring': 'Ring', 'discard': 'Discard'}[buffer.policy]
 
     def specs(states):

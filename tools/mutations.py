@@ -35,7 +35,7 @@ ARRIVAL = [
      'if chunk.partial then record buffer { shut = true } else discarded_buffer buffer sequence chunk_id chunk',
      'discarded_buffer buffer sequence chunk_id chunk'),
     ('takes records after discarding', 'Arrivals.antt', 'buffer.shut || list_any', 'list_any'),
-    ('takes ids that are too far', 'Arrivals.antt', 'nat_le (base_of state + IDS_AHEAD) chunk_id',
+    ('takes chunks that are too far', 'Arrivals.antt', 'nat_le (base_of state + IDS_AHEAD) chunk_id',
      'nat_le (base_of state + IDS_AHEAD + IDS_AHEAD) chunk_id'),
     ('loses a packet twice that continues', 'Sequences.antt',
      '\n    - one_if (chunk.continues && (unread_of state chunk_id (length chunk.fragments) == length chunk.fragments))', ''),
@@ -94,7 +94,7 @@ TELLS = [
 
 # (crate, then as above)
 ACCOUNTS = [
-    ('takes a chunk under any id', 'delivery_laws', 'Orders.antt', '(chunk_id ≡ come) × (sheet : Sheet)', '(come ≡ come) × (sheet : Sheet)'),
+    ('takes a chunk at any position', 'delivery_laws', 'Orders.antt', '(chunk_id ≡ come) × (sheet : Sheet)', '(come ≡ come) × (sheet : Sheet)'),
     ('takes a chunk behind its close', 'delivery_laws', 'Orders.antt', '((closed ≡ false) × (chunk_id ≡ come) × (sheet : Sheet)',
      '((closed ≡ closed) × (chunk_id ≡ come) × (sheet : Sheet)'),
     ('wants no patches behind a chunk', 'delivery_laws', 'Orders.antt', '(suc come) closed sheet.patches events', '(suc come) closed [] events'),
@@ -112,11 +112,11 @@ ACCOUNTS = [
     ('wants the last chunk to run on', 'world_model', 'Accounts.antt', 'last_runs_on false cut.pages ≡ newest_goes_on',
      'last_runs_on true cut.pages ≡ newest_goes_on'),
     ('wants the next chunk of what is noted', 'world_model', 'Accounts.antt',
-     '(closed ≡ false) × (chunk_id ≡ come) × (content : Content)', '(closed ≡ false) × (chunk_id ≡ suc come) × (content : Content)'),
+     '(closed ≡ false) × (position ≡ come) × (content : Content)', '(closed ≡ false) × (position ≡ suc come) × (content : Content)'),
     ('takes any chunk that is noted', 'world_model', 'Accounts.antt',
-     '(closed ≡ false) × (chunk_id ≡ come) × (content : Content)', '(closed ≡ false) × (come ≡ come) × (content : Content)'),
+     '(closed ≡ false) × (position ≡ come) × (content : Content)', '(closed ≡ false) × (come ≡ come) × (content : Content)'),
     ('notes a chunk behind its close', 'world_model', 'Accounts.antt',
-     '(closed ≡ false) × (chunk_id ≡ come) × (content : Content)', '(closed ≡ closed) × (chunk_id ≡ come) × (content : Content)'),
+     '(closed ≡ false) × (position ≡ come) × (content : Content)', '(closed ≡ closed) × (position ≡ come) × (content : Content)'),
     ('finds all fragments of a chunk', 'world_model', 'Accounts.antt', 'length found.ends < image.count', 'length found.ends ≤ image.count'),
     ('wants no patches noted', 'world_model', 'Accounts.antt', '(suc come) closed content.patches notes', '(suc come) closed [] notes'),
     ('gives writers the sequences from 1 on', 'trace_model', 'Delivery.antt', 'sequence_of writer = writer + 2', 'sequence_of writer = writer + 1'),

@@ -23,7 +23,8 @@ ODD_LINES = [
     b'buffer 4 ring', b'buffer 3 ring', b'buffer 65536 discard', b'buffer 65537 ring', b'buffer 4 Ring', b'buffer 04 ring',
     b'producer 1 4096 3', b'producer 65 4096 1', b'producer 1 4097 1', b'producer 0 4096 1', b'producer 1 69632 14',
     b'producer 1 65536 1', b'writer 1 1 drop', b'writer 1 1 drop ', b'writer 1 1 stall', b'writer 2 1 drop', b'writer 1 9 drop',
-    b'writer 18446744073709551616 1 drop', b'writer 1 1 keep', b'writer 0 0 drop', b'p 0', b'p 65', b'p 18446744073709551616', b'p 1 8:',
+    b'writer 18446744073709551616 1 drop', b'writer 1 1 keep', b'writer 0 0 drop', b'writer 1 1 drop from 0', b'writer 1 1 stall:2 from 4294967295', b'writer 1 1 drop from 4294967296',
+    b'writer 1 1 drop from', b'writer 1 1 drop from 01', b'writer 1 1 from 1', b'writer 1 1 drop from 1 1', b'p 0', b'p 65', b'p 18446744073709551616', b'p 1 8:',
     b'p 1 8:1 ', b'p 1 8:1  9:1', b'p 1 8:01', b'p 1 0:1', b'p 1 536870912:1', b'p 1 8:18446744073709551616',
     b'p 1 8:18446744073709551615', b'p 1 10:5', b'p 1 1{10:5}', b'p 1 3{1:1}', b'p 1 79:"x"', b'p 1 1:"', b'p 1 1:"\x7f"', b'p 1 1:"\\"',
     b'p 1 1:"a"*0', b'p 1 1:"a"*1048577', b'p 1 1:"a"*', b'p 1 1:"a"*01', b"p 1 1:x'", b"p 1 1:x'0'", b"p 1 1:x'0G'", b"p 1 1:x'00FF'",
@@ -70,7 +71,7 @@ class ScenarioMaker:
         payload = payload_size(page_size, chunks)
         if record_size(payload) > self.buffers[buffer] * 1024:
             return False
-        self.lines.append(f'writer {producer + 1} {buffer + 1} {policy}')
+        self.lines.append(f'writer {producer + 1} {buffer + 1} {policy}{self.first_id()}')
         self.writers.append((producer + 1, payload))
         return True
 
@@ -78,6 +79,12 @@ class ScenarioMaker:
         if self.tries and self.chance(.2):
             return f'stall:{self.pick(1, 1, 2, 3, 1000000)}'
         return self.pick('drop', 'drop', 'stall')
+
+    def first_id(self) -> str:
+        """Now and then an id, most often one that few chunks bring to the last one."""
+        if not self.chance(.3):
+            return ''
+        return f' from {self.pick(0, 1, 2 ** 31, 2 ** 32 - 5, 2 ** 32 - 2, 2 ** 32 - 1, self.random.randrange(2 ** 32))}'
 
     # Fields
 

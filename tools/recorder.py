@@ -13,7 +13,7 @@ BRANCHES = (
     'a chain that awaits a patch when its sequence is closed', 'a drop mark in a chunk that runs on',
     'a partial record that the cursor alone makes a double', 'a final partial record that is lost unread', 'a partial record that shuts a discard buffer',
     'an arrival of which more was passed', 'an arrival of which just all was passed', 'padding that meets a record', 'a patch outside the last fragment', 'a patch for a chunk that is gone',
-    'a commit with patches', 'an id that is too far', 'an id out of order', 'a double', 'a chunk that is unreadable', 'a partial record that grows',
+    'a commit with patches', 'a chunk that is too far', 'a chunk out of order', 'a double', 'a chunk that is unreadable', 'a partial record that grows',
     'a read that ends at its limit', 'a read that ends at a part', 'a read that ends at an open patch', 'a read that ends at a close',
 )
 
@@ -24,7 +24,7 @@ class Notes:
     def __init__(self):
         self.events = []        # kind, sequence, and what the event needs and answered
         self.cursors = []       # where the cursor of its sequence stands behind each event
-        self.fixed = {}         # of each sequence: (chunk id, passed, outcome)
+        self.fixed = {}         # of each sequence: (position, passed, outcome)
         self.branches = set()
 
     def note(self, sequence, kind, *rest):
@@ -51,10 +51,10 @@ def notes_of(buffer):
     return NOTES.setdefault(id(buffer), Notes())
 
 
-def unread_starts(sequence, chunk_id, count, continues):
+def unread_starts(sequence, position, count, continues):
     """The places of the packets that begin in fragments which the cursor hasn't passed."""
-    first = count - sequence.unread(chunk_id, count)
-    return [(chunk_id, i) for i in range(first, count) if not (continues and i == 0)]
+    first = count - sequence.unread(position, count)
+    return [(position, i) for i in range(first, count) if not (continues and i == 0)]
 
 
 def image_of(chunk):
@@ -64,8 +64,8 @@ def image_of(chunk):
 class Buffer(TraceBuffer):
     """A buffer that notes what becomes of its events."""
 
-    def add_sequence(self, number, record_size):
-        super().add_sequence(number, record_size)
+    def add_sequence(self, number, record_size, first_id=0):
+        super().add_sequence(number, record_size, first_id)
         self.sequences[number].buffer = self
 
     def lose(self, record):
@@ -73,7 +73,7 @@ class Buffer(TraceBuffer):
         if record.partial and sequence.closed and self.is_unread(record):
             notes_of(self).branches.add('a final partial record that is lost unread')
         if not (record.partial and not sequence.closed):
-            for place in unread_starts(sequence, record.chunk_id, len(record.fragments), record.chunk.continues()):
+            for place in unread_starts(sequence, record.position, len(record.fragments), record.chunk.continues()):
                 notes_of(self).fix(sequence.number, place, 'Absent Lost')
         super().lose(record)
 
@@ -83,20 +83,20 @@ class Buffer(TraceBuffer):
             notes_of(self).branches.add('padding that meets a record')
         return super().make_room(size)
 
-    def arrive(self, number, chunk):
+    def arrive_placed(self, number, chunk):
         notes, sequence, image = notes_of(self), self.sequences[number], image_of(chunk)
         was, is_ahead = sequence.cursor, chunk.chunk_id > sequence.least_missing
         starts = unread_starts(sequence, chunk.chunk_id, chunk.count, chunk.continues())
-        outcome = super().arrive(number, chunk)
+        outcome = super().arrive_placed(number, chunk)
         if outcome == BAD_CHUNK:
             notes.branches.add('a chunk that is unreadable')
             outcome = f'{BAD_CHUNK} {first_unreadable(chunk)}'
         elif outcome == DUPLICATE:
             notes.branches.add('a double')
         elif outcome == TOO_FAR:
-            notes.branches.add('an id that is too far')
+            notes.branches.add('a chunk that is too far')
         elif is_ahead:
-            notes.branches.add('an id out of order')
+            notes.branches.add('a chunk out of order')
         if outcome == DISCARDED:
             for place in starts:
                 notes.fix(number, place, 'Absent Lost')
@@ -105,10 +105,10 @@ class Buffer(TraceBuffer):
         notes.note(sequence, 'arrive', chunk.chunk_id, image, outcome)
         return outcome
 
-    def arrive_partial(self, number, chunk):
+    def arrive_partial_placed(self, number, chunk):
         notes, sequence, image = notes_of(self), self.sequences[number], image_of(chunk)
         held, was_shut = sequence.live.get(chunk.chunk_id), self.shut
-        outcome = super().arrive_partial(number, chunk)
+        outcome = super().arrive_partial_placed(number, chunk)
         if outcome == DUPLICATE and not sequence.has_arrived(chunk.chunk_id) and not (held and len(held.fragments) >= chunk.count):
             notes.branches.add('a partial record that the cursor alone makes a double')
         if outcome == DISCARDED and not was_shut:
@@ -118,11 +118,11 @@ class Buffer(TraceBuffer):
         notes.note(sequence, 'partial', chunk.chunk_id, image, outcome)
         return outcome
 
-    def patch(self, number, patch):
+    def patch_placed(self, number, patch):
         notes, sequence = notes_of(self), self.sequences[number]
         found = sequence.live.get(patch.chunk_id)
         awaits = found is not None and found.awaits
-        is_applied = super().patch(number, patch)
+        is_applied = super().patch_placed(number, patch)
         answer = 'Applied' if is_applied else 'BadOffset' if awaits else 'NoChunk'
         if not is_applied:
             notes.branches.add('a patch outside the last fragment' if awaits else 'a patch for a chunk that is gone')

@@ -101,6 +101,13 @@ def cutting_rows():
                  'buffer 64 ring / producer 1 4096 1 / writer 1 1 drop / writer 1 1 drop '
                  '/ p 2 8:1 / f 2 / c 1 / p 1 8:5 / p 2 8:7 / f 1 / c 1 / p 2 8:6',
                  '0A 07 40 05 50 02 D0 02 01 0A 07 40 01 50 03 D0 02 01 0A 07 D0 02 01 40 06 50 03')
+    late = SET + ' from 4294967295'
+    yield played('a chunk behind the last id', late + ' / p 1 8:1 / f 1 / p 1 8:2', '0A 07 40 01 50 02 D0 02 01 0A 04 40 02 50 02',
+                 f'buffer 1 ring bytes 65536 placed 2 {NONE} / ' + sequence(2, 2, delivered=2))
+    yield played('a length that comes from behind the last id', late + ' / p 1 900{1:"x"*300}',
+                 '0A BA 02 A2 38 AF 82 80 00 0A AC 02 78*300 50 02 D0 02 01')
+    yield played('a part behind the last id', late + ' / p 1 8:1 / f 1 / p 1 8:2 / p 1 8:3 / s 1 / r 1',
+                 '0A 07 40 01 50 02 D0 02 01 0A 04 40 02 50 02 0A 04 40 03 50 02')
     yield played('1,024 packets', 'buffer 128 ring / producer 2 65536 1 / writer 1 1 drop' + ' / p 1' * 1024,
                  '0A 05 50 02 D0 02 01' + ' 0A 02 50 02' * 1023)
     yield played('the largest packet', 'buffer 4096 ring / producer 64 65536 1 / writer 1 1 drop / p 1 1:"x"*1048572',
@@ -292,6 +299,23 @@ def faults_of(row: Row, program: list[str]) -> list[str]:
     return faults
 
 
+WORKLOAD = ['gen', '7', '8', '20000']
+NONE_LOST = b''.join(b'sequence %d begun 20000 delivered 20000 dropped 0 overwritten 0 discarded 0 cut 0\n' % number for number in range(2, 10))
+
+
+def workload_faults(program: list[str], first_id: bytes) -> list[str]:
+    """Of a workload of eight writers on threads nothing is lost, whatever the threads do and wherever the ids of chunks begin."""
+    workload = subprocess.run([*program, *WORKLOAD], capture_output=True, check=False).stdout.replace(b' stall\n', b' stall' + first_id + b'\n')
+    faults = []
+    for command in 'run', 'replay':
+        played = subprocess.run([*program, command], input=workload, capture_output=True, check=False)
+        told = b''.join(line for line in played.stderr.splitlines(keepends=True) if line.startswith(b'sequence'))
+        verdict = subprocess.run([*program, 'check'], input=workload + b'==\n' + played.stdout, capture_output=True, check=False).stdout
+        if (played.returncode, told, verdict) != (0, NONE_LOST, b'agrees 160000\n'):
+            faults.append(f'{command}: status {played.returncode}, text {played.stderr[:200]}, {verdict}')
+    return faults
+
+
 def main() -> int:
     program = split(sys.argv[1]) if len(sys.argv) > 1 else [sys.executable, os.path.join(HERE, 'model')]
     passed, failed = 0, 0
@@ -301,6 +325,11 @@ def main() -> int:
         faults = faults_of(row, program)
         for fault in faults:
             print(f'{row.name}: {fault}')
+        passed, failed = passed + (not faults), failed + bool(faults)
+    for first_id in (b'', b' from 4294967290') if len(sys.argv) > 1 else ():
+        faults = workload_faults(program, first_id)
+        for fault in faults:
+            print(f'workload{first_id.decode()}: {fault}')
         passed, failed = passed + (not faults), failed + bool(faults)
     print(f'{passed} rows passed, {failed} failed')
     return 1 if failed else 0

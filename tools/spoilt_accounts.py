@@ -177,7 +177,7 @@ def event_spoils(account):
             behind = [other for other in events[at + 1:at + 2] if other[0] == 'patched']
             yield 'a chunk left out', spliced(sequence, events, at, 1 + len(behind), [])
         elif event[2]:
-            yield 'a chunk under another id', spliced(sequence, events, at, 1, [('arrive', sequence, event[2] - 1, *event[3:])])
+            yield 'a chunk at another position', spliced(sequence, events, at, 1, [('arrive', sequence, event[2] - 1, *event[3:])])
 
 
 def event_facts(account, splice):
@@ -203,7 +203,7 @@ WAYS = ('a packet twice', 'a packet missing', 'an invented packet', 'a mark too 
         'two packets out of order, with marks in order', 'a record of the service\'s sequence', 'a record of no sequence',
         'a count one too low', 'a packet counted twice', 'a packet under another cause', 'patches left out before a chunk',
         'patches left out before a read, a close or a part', 'a part with all fragments', 'a chunk twice', 'a chunk behind its close',
-        'a chunk left out', 'a chunk under another id')
+        'a chunk left out', 'a chunk at another position')
 
 
 def facts_of(account):

@@ -144,7 +144,8 @@ def enough_of(world):
 
 
 def spec_term(spec):
-    return record(producer=spec.producer, buffer=spec.buffer, policy={'drop': 'Drops', 'stall': 'Stalls'}[spec.policy])
+    return record(producer=spec.producer, buffer=spec.buffer, policy={'drop': 'Drops', 'stall': 'Stalls'}[spec.policy],
+                  **{'from': spec.first_id})
 
 
 def statement_of(name, writer, world, reported, counts):
@@ -166,7 +167,7 @@ def statement_of(name, writer, world, reported, counts):
     images = [record(sequence=sequence, chunk_id=number, count=page.count, flags=page.flags, payload=octets(page.payload))
               for number, page in enumerate(pages)]
     patches = listed(listed(map(writer_scripts.patch_term, page.patches)) for page in pages)
-    fresh = listed(f'fresh {one.number} {one.record_size}' for one in buffer.sequences.values())
+    fresh = listed(f'fresh {one.number} {one.record_size} {one.first_id}' for one in buffer.sequences.values())
     policy = {'ring': 'Ring', 'discard': 'Discard'}[buffer.policy]
 
     enough = is_enough(world)

@@ -5,7 +5,7 @@ import random
 
 from antt_text import Statement, flag, listed, nested, octets, record
 from model import writers
-from model.chunks import Claims
+from model.chunks import Claims, position_of
 from model.fields import Begin, End, Number, Text
 from model.geometry import CONTINUES
 from model.scenario import Writer as WriterSpec
@@ -192,7 +192,7 @@ class Recorded(writers.Writer):
     def complete_chunk(self, runs_on):
         super().complete_chunk(runs_on)
         _, chunk = self.complete[-1]
-        self.images.append(Page(chunk.count, chunk.flags, chunk.payload, [patch_of(patch) for patch in chunk.patches]))
+        self.images.append(Page(chunk.count, chunk.flags, chunk.payload, [patch_of(patch, self.spec.first_id) for patch in chunk.patches]))
 
     def pages(self):
         """The completed images, and the held chunk as the last one."""
@@ -202,7 +202,7 @@ class Recorded(writers.Writer):
         payload = bytearray(held.payload)
         if self.in_packet and not self.thrown_away:
             payload[held.fragment_at:held.fragment_at + 4] = four_bytes(held.size_of_fragment())
-        return [*self.images, Page(held.count, CONTINUES if held.continues else 0, payload, [patch_of(patch) for patch in self.patches])]
+        return [*self.images, Page(held.count, CONTINUES if held.continues else 0, payload, [patch_of(patch, self.spec.first_id) for patch in self.patches])]
 
 
 def call_of(part):
@@ -215,8 +215,8 @@ def call_of(part):
     return 'Bytes', part.field, part.text, part.times
 
 
-def patch_of(patch):
-    return patch.chunk_id, patch.offset, patch.bytes, patch.last
+def patch_of(patch, first_id):
+    return position_of(first_id, patch.chunk_id), patch.offset, patch.bytes, patch.last
 
 
 class Run:

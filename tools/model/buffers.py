@@ -1,10 +1,13 @@
-"""Reads FORMATS, "Arrival", and the counts of "Report": a buffer, its records, and what is lost where a new record comes."""
+"""Reads FORMATS, "Arrival", and the counts of "Report": a buffer, its records, and what is lost where a new record comes.
+
+Chunks and patches come with ids, which are turned into positions where they come in.
+"""
 
 from collections import deque
 from collections.abc import Callable
-from dataclasses import dataclass, field
+from dataclasses import dataclass, field, replace
 
-from model.chunks import Chunk, Fragment, Patch, Unreadable, read_fragments
+from model.chunks import Chunk, Fragment, Patch, Unreadable, position_of, read_fragments
 from model.limits import raised
 
 IDS_AHEAD = 1_024           # a chunk so far above the least missing one is refused
@@ -16,7 +19,7 @@ KEPT, REWRITTEN, DUPLICATE, TOO_FAR, DISCARDED, BAD_CHUNK = 'kept', 'rewritten',
 class Record:
     """What a buffer has of a chunk, and where it lies."""
     sequence: 'Sequence'
-    chunk_id: int
+    position: int
     at: int
     chunk: Chunk
     fragments: list[Fragment]
@@ -32,13 +35,14 @@ class Sequence:
     """What a buffer knows of a sequence."""
     number: int
     record_size: int
+    first_id: int = 0
     live: dict[int, Record] = field(default_factory=dict)
-    arrived: set[int] = field(default_factory=set)      # ids above the least missing one
+    arrived: set[int] = field(default_factory=set)      # positions above the least missing one
     least_missing: int = 0
-    cursor: tuple[int, int] = (0, 0)        # a chunk's id, and how many of its fragments were passed
+    cursor: tuple[int, int] = (0, 0)        # a chunk's position, and how many of its fragments were passed
     closed: bool = False
-    final: set[int] = field(default_factory=set)        # ids of which a part was live when it was closed
-    end: int = 0                            # behind the last id of which there ever was something, once it is closed
+    final: set[int] = field(default_factory=set)        # positions of which a part was live when it was closed
+    end: int = 0                            # behind the last position of which there ever was something, once it is closed
     missing: bool = False                   # something was passed since the last delivery
     delivered: int = 0
     dropped: int = 0
@@ -46,32 +50,36 @@ class Sequence:
     cut: int = 0
     accepts: Callable[[bytes], bool] | None = None      # which packets are delivered, where not all are
 
-    def has_arrived(self, chunk_id: int) -> bool:
-        return chunk_id < self.least_missing or chunk_id in self.arrived
+    def placed(self, named: Chunk | Patch) -> Chunk | Patch:
+        """The same with the chunk's position in place of its id."""
+        return replace(named, chunk_id=position_of(self.first_id, named.chunk_id))
 
-    def note_arrival(self, chunk_id: int, count: int) -> None:
-        self.arrived.add(chunk_id)
+    def has_arrived(self, position: int) -> bool:
+        return position < self.least_missing or position in self.arrived
+
+    def note_arrival(self, position: int, count: int) -> None:
+        self.arrived.add(position)
         while self.least_missing in self.arrived:
             self.arrived.remove(self.least_missing)
             self.least_missing += 1
-        if self.cursor[0] == chunk_id and self.cursor[1] >= count:
-            self.cursor = (chunk_id + 1, 0)
+        if self.cursor[0] == position and self.cursor[1] >= count:
+            self.cursor = (position + 1, 0)
 
-    def unread(self, chunk_id: int, count: int) -> int:
+    def unread(self, position: int, count: int) -> int:
         """How many of so many fragments of a chunk the cursor hasn't passed."""
-        if chunk_id < self.cursor[0]:
+        if position < self.cursor[0]:
             return 0
-        return max(0, count - self.cursor[1]) if chunk_id == self.cursor[0] else count
+        return max(0, count - self.cursor[1]) if position == self.cursor[0] else count
 
-    def unread_starts(self, chunk_id: int, count: int, continues: bool) -> int:
+    def unread_starts(self, position: int, count: int, continues: bool) -> int:
         """How many packets begin in these."""
-        unread = self.unread(chunk_id, count)
+        unread = self.unread(position, count)
         return unread - 1 if continues and unread == count else unread
 
     def close(self) -> None:
         self.closed = True
-        self.final = {chunk_id for chunk_id, record in self.live.items() if record.partial}
-        self.end = max(self.least_missing, *(chunk_id + 1 for chunk_id in self.arrived | self.final), 0)
+        self.final = {position for position, record in self.live.items() if record.partial}
+        self.end = max(self.least_missing, *(position + 1 for position in self.arrived | self.final), 0)
 
 
 class TraceBuffer:
@@ -86,13 +94,24 @@ class TraceBuffer:
         self.shut = False               # a record was discarded, and so is each that needs a new place
         self.placed = self.rewritten = self.overwritten = self.discarded = self.unpatched = self.padding = 0
 
-    def add_sequence(self, number: int, record_size: int) -> None:
-        self.sequences[number] = Sequence(number, record_size)
+    def add_sequence(self, number: int, record_size: int, first_id: int = 0) -> None:
+        self.sequences[number] = Sequence(number, record_size, first_id)
 
     # What comes
 
     def arrive(self, number: int, chunk: Chunk) -> str:
         """A complete chunk arrives."""
+        return self.arrive_placed(number, self.sequences[number].placed(chunk))
+
+    def arrive_partial(self, number: int, chunk: Chunk) -> str:
+        """A part of a chunk arrives, which its writer still holds."""
+        return self.arrive_partial_placed(number, self.sequences[number].placed(chunk))
+
+    def patch(self, number: int, patch: Patch) -> bool:
+        """Puts a late length in, where a record awaits it there."""
+        return self.patch_placed(number, self.sequences[number].placed(patch))
+
+    def arrive_placed(self, number: int, chunk: Chunk) -> str:
         sequence = self.sequences[number]
         try:
             fragments = read_fragments(chunk.payload, chunk.count)
@@ -106,8 +125,7 @@ class TraceBuffer:
         sequence.note_arrival(chunk.chunk_id, chunk.count)
         return outcome
 
-    def arrive_partial(self, number: int, chunk: Chunk) -> str:
-        """A part of a chunk arrives, which its writer still holds."""
+    def arrive_partial_placed(self, number: int, chunk: Chunk) -> str:
         sequence = self.sequences[number]
         try:
             fragments = read_fragments(chunk.payload, chunk.count)
@@ -158,7 +176,7 @@ class TraceBuffer:
         return over or max(self.next, record.at) < min(self.next + padding, record.end())
 
     def is_unread(self, record: Record) -> bool:
-        return record.sequence.unread(record.chunk_id, len(record.fragments)) > 0
+        return record.sequence.unread(record.position, len(record.fragments)) > 0
 
     def refuses(self, size: int) -> bool:
         """A buffer that discards would lose an unread record."""
@@ -184,18 +202,17 @@ class TraceBuffer:
 
     def lose(self, record: Record) -> None:
         sequence = record.sequence
-        del sequence.live[record.chunk_id]
+        del sequence.live[record.position]
         if record.partial and not sequence.closed:
             return
         if self.is_unread(record):
             self.overwritten = raised(self.overwritten)
-        starts = sequence.unread_starts(record.chunk_id, len(record.fragments), record.chunk.continues())
+        starts = sequence.unread_starts(record.position, len(record.fragments), record.chunk.continues())
         sequence.lost = raised(sequence.lost, starts)
 
     # Patches and closes
 
-    def patch(self, number: int, patch: Patch) -> bool:
-        """Puts a late length in, where a record awaits it there."""
+    def patch_placed(self, number: int, patch: Patch) -> bool:
         record = self.sequences[number].live.get(patch.chunk_id)
         if record is None or not record.awaits:
             return False

@@ -9,6 +9,18 @@ MOST_FRAGMENTS = 1_023
 SIZE = 4                    # bytes of a fragment's size, as writers write it
 
 
+IDS = 2 ** 32               # a chunk's id is below this
+
+
+def id_of(first_id: int, position: int) -> int:
+    """The id of the chunk at this position of a sequence, whose first chunk has that id."""
+    return (first_id + position) % IDS
+
+
+def position_of(first_id: int, chunk_id: int) -> int:
+    return (chunk_id - first_id) % IDS
+
+
 class Unreadable(Exception):
     """The number of the first fragment that can't be read, from 0."""
 

@@ -9,7 +9,7 @@ MOST_DIGITS = 20            # of a number below 2^64; of a longer one no digit m
 FORMS = [(kind, re.compile(form.replace(b'N', NUMERAL))) for kind, form in (
     ('buffer', rb'buffer N (ring|discard)'),
     ('producer', rb'producer N N N'),
-    ('writer', rb'writer N N (drop|stall|stall:N)'),
+    ('writer', rb'writer N N (?:drop|stall|stall:N)'), ('writer', rb'writer N N (?:drop|stall|stall:N) from N'),
     ('p', rb'p N'), ('p', rb'p N (.*)'),
     ('b', rb'b N'), ('e', rb'e N'), ('u', rb'u N'), ('f', rb'f N'),
     ('a', rb'a N'), ('a', rb'a N (.*)'),
@@ -27,10 +27,12 @@ OF_PRODUCERS = ('c', 's', 'x')
 
 @dataclass(frozen=True)
 class Form:
-    """A line by its kind, its numbers, its policy, and where its FIELDS begin."""
+    """A line by its kind, its numbers, its policy, what else it says of a writer, and where its FIELDS begin."""
     kind: str
     numbers: tuple[int, ...] = ()
     policy: str = ''
+    tries: int | None = None        # of `stall:N`
+    first_id: int | None = None     # of a writer's chunks, where its line says it
     fields: bytes | None = None     # those of `a` and `p`
     before_fields: int = 0          # how many bytes stand in front of them, and of the FIELD of `n`
 
@@ -56,6 +58,15 @@ def form_by(kind: str, line: bytes, words: list[bytes]) -> Form:
         return Form(kind, (number_of(words[0]),), fields=fields, before_fields=len(line) - len(fields or b''))
     if kind == 'n':
         return Form(kind, (number_of(words[0]), number_of(words[1])), before_fields=len(line) - len(words[1]))
+    if kind == 'writer':
+        return form_of_writer(line.split(b' '))
     policies = [word for word in words if not word[:1].isdigit()]
     numbers = tuple(number_of(word) for word in words if word[:1].isdigit())
-    return Form(kind, numbers, policies[0].decode().split(':')[0] if policies else '')
+    return Form(kind, numbers, policies[0].decode() if policies else '')
+
+
+def form_of_writer(words: list[bytes]) -> Form:
+    """`writer P B POLICY`, or with `from ID` behind it."""
+    policy, _, tries = words[3].partition(b':')
+    return Form('writer', (number_of(words[1]), number_of(words[2])), policy.decode(), number_of(tries) if tries else None,
+                number_of(words[5]) if len(words) > 4 else None)

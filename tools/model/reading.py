@@ -58,7 +58,7 @@ def pieces_of(sequence: Sequence, record: Record, passed: int) -> Iterator[Piece
     for number in range(passed, len(record.fragments) - stops_at_last(sequence, record)):
         fragment, is_last = record.fragments[number], number == len(record.fragments) - 1
         stays = record.partial and not sequence.closed
-        behind = (record.chunk_id + 1, 0) if is_last and not stays else (record.chunk_id, number + 1)
+        behind = (record.position + 1, 0) if is_last and not stays else (record.position, number + 1)
         yield Piece(bytes(record.chunk.payload[fragment.offset:fragment.end]), behind, record.chunk.continues() and number == 0,
                     record.chunk.runs_on() and is_last, record.awaits and is_last, fragment.dropped)
 
@@ -70,9 +70,9 @@ def stops_at_last(sequence: Sequence, record: Record) -> bool:
 
 def row_of(sequence: Sequence, place: Place) -> Iterator[Piece | Gap | Stop]:
     """What stands in a sequence from this place on, up to its stop place."""
-    chunk_id, passed = place
-    while not sequence.closed or chunk_id < sequence.end:
-        record = sequence.live.get(chunk_id)
+    position, passed = place
+    while not sequence.closed or position < sequence.end:
+        record = sequence.live.get(position)
         if record:
             yield from pieces_of(sequence, record, passed)
             if stops_at_last(sequence, record):
@@ -81,14 +81,14 @@ def row_of(sequence: Sequence, place: Place) -> Iterator[Piece | Gap | Stop]:
             if record.partial and not sequence.closed:
                 yield Stop(False)
                 return
-        elif sequence.has_arrived(chunk_id) or chunk_id in sequence.final:
-            yield Gap((chunk_id + 1, 0), lost=True)
+        elif sequence.has_arrived(position) or position in sequence.final:
+            yield Gap((position + 1, 0), lost=True)
         elif sequence.closed:
-            yield Gap((chunk_id + 1, 0), lost=False)
+            yield Gap((position + 1, 0), lost=False)
         else:
             yield Stop(True)
             return
-        chunk_id, passed = chunk_id + 1, 0
+        position, passed = position + 1, 0
     yield Stop(False)
 
 

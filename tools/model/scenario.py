@@ -44,6 +44,7 @@ class Writer:
     buffer: int
     policy: str             # `drop` or `stall`
     tries: int | None       # how often it asks for each chunk before it drops, where it stalls and then drops
+    first_id: int = 0       # of its chunks
 
 
 @dataclass(frozen=True)
@@ -91,7 +92,9 @@ def is_out_of_range(_: Scenario, form: Form) -> bool:
         return numbers[0] not in limits.BUFFER_KB
     if form.kind == 'producer':
         return numbers[0] not in limits.PAGES or numbers[1] not in limits.PAGE_SIZES or numbers[2] not in limits.CHUNK_COUNTS
-    if form.kind == 'writer' and len(numbers) > 2 and numbers[2] not in limits.TRIES:
+    if form.tries is not None and form.tries not in limits.TRIES:
+        return True
+    if form.first_id is not None and form.first_id not in limits.CHUNK_IDS:
         return True
     if form.kind == 'r' and len(numbers) > 1 and numbers[1] == 0:
         return True
@@ -190,7 +193,7 @@ def set_up(scenario: Scenario, form: Form) -> None:
     elif form.kind == 'producer':
         scenario.producers.append(Producer(*numbers))
     else:
-        scenario.writers.append(Writer(numbers[0], numbers[1], form.policy, numbers[2] if len(numbers) > 2 else None))
+        scenario.writers.append(Writer(*numbers, form.policy, form.tries, form.first_id or 0))
 
 
 def add_line(scenario: Scenario, form: Form, line: int, parts: tuple) -> None:

@@ -39,7 +39,7 @@ class Service:
     def make_writer(self, number: int) -> Writer:
         spec = self.scenario.writers[number - 1]
         payload = self.scenario.producers[spec.producer - 1].payload()
-        self.buffers[spec.buffer - 1].add_sequence(sequence_of(number), record_size(payload))
+        self.buffers[spec.buffer - 1].add_sequence(sequence_of(number), record_size(payload), spec.first_id)
         return Writer(number, spec, payload, self.claims[spec.producer - 1], lambda: self.collect(spec.producer) > 0)
 
     def writers_of(self, producer: int) -> list[Writer]:

@@ -3,7 +3,7 @@
 from collections import deque
 from collections.abc import Callable
 
-from model.chunks import MOST_FRAGMENTS, Chunk, Claims, HeldChunk, Hole, Patch
+from model.chunks import MOST_FRAGMENTS, Chunk, Claims, HeldChunk, Hole, Patch, id_of
 from model.fields import Begin, End, Number
 from model.geometry import AWAITS, RUNS_ON
 from model.wire import CONTENT, DROP_MARK, HOLE, MARK, four_bytes, number_field, tag, text_head
@@ -33,7 +33,7 @@ class Writer:
         self.held: HeldChunk | None = None
         self.complete: deque[tuple[int, Chunk]] = deque()   # with their slots, until the service takes them
         self.completed = 0          # chunks, so far
-        self.next_id = 0
+        self.next_position = 0
         self.holes: list[Hole] = []     # the innermost last
         self.patches: list[Patch] = []  # for earlier chunks, that go with the next completed one
         self.in_packet = False
@@ -165,8 +165,8 @@ class Writer:
         self.hold(self.claim(), continues)
 
     def hold(self, slot: int, continues: bool) -> None:
-        self.held = HeldChunk(slot, self.next_id, self.payload_size, continues)
-        self.next_id += 1
+        self.held = HeldChunk(slot, id_of(self.spec.first_id, self.next_position), self.payload_size, continues)
+        self.next_position += 1
 
     def claim(self) -> int:
         """A free chunk. How often a writer may ask that stalls and then drops doesn't matter here: no other job goes on between an ask
