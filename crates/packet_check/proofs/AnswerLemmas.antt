@@ -57,10 +57,10 @@ refused_answer bytes h at start number refused =
 
 -- ---- what the walk answers is so
 
-passes_nothing : Passes []
+pub passes_nothing : Passes []
 passes_nothing = record { fields = []; spells = refl; none = All-nil IsFree }
 
-passes_more : (field : MessageField) (front rest : List ℕ) → Spells field front → is_refused field.number ≡ false → Passes rest → Passes (front ++ rest)
+pub passes_more : (field : MessageField) (front rest : List ℕ) → Spells field front → is_refused field.number ≡ false → Passes rest → Passes (front ++ rest)
 passes_more field front rest spells free p = record {
   fields = field ∷ p.fields;
   spells = (front, rest, refl, spells, p.spells);

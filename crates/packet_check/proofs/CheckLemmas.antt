@@ -1,16 +1,19 @@
 -- What the check has come to: over whole fields, over some bytes of a piece, and over all of it.
-use Rattle.std.proofs.Common.{◌≡◌, ℕ, ◌+◌, ◌-◌, ◌<◌, ◌≤◌, true, false, List, [], ◌∷◌, length, take, drop, get_or, refl, sym, ap, ◌∙◌, arith, Ok, Err, length-drop, drop-cons}
+use Rattle.std.proofs.Common.{◌≡◌, ℕ, ◌+◌, ◌-◌, ◌^◌, ◌<◌, ◌≤◌, true, false, List, [], ◌∷◌, length, take, drop, get_or, refl, sym, ap, ◌∙◌, subst, arith, Ok, Err, length-drop, drop-cons}
 use Rattle.std.proofs.lemmas.List.{take-append-drop, length-take-le, take_all}
 use Rattle.std.proofs.Math.Seq.{take-add}
+use Rattle.trace_base.specs.declared.limits.TheConstants.{MAX_INPUT}
 use Rattle.trace_model.specs.Fields.{MessageField}
-use Rattle.trace_model.specs.Walks.{WalkPart, Between, InContent, Unfit, Refused, Walk, is_refused, packet_start, field_ended, content_left, step, walk_over}
-use Rattle.packet_check.specs.Answers.{answer_of, walk_behind}
+use Rattle.trace_model.specs.Walks.{WalkPart, Between, InContent, Unfit, Refused, Walk, is_refused, packet_start, field_ended, content_left, step, walk_over, is_between, is_accepted}
+use Rattle.packet_check.specs.Answers.{answer_in, answer_of, walk_behind}
 use Rattle.packet_check.specs.Messages.{HasField}
 use Rattle.packet_check.specs.Values as values
 use Rattle.packet_check.specs.declared.walk.Part.{Part}
 use Rattle.packet_check.specs.declared.walk.Walk as code
+use Rattle.packet_check.specs.declared.whole.Front.TheVariants as fronts
 use Rattle.packet_check.specs.declared.fault.PacketFault.TheVariants.{ReservedField}
 use Rattle.packet_check.proofs.AnswerLemmas.{IsBetween}
+use Rattle.packet_check.proofs.RiseLemmas.{begun_walk, walk_counts}
 use Rattle.packet_check.proofs.WalkLemmas.{walk_at, walked_on, content_walk, field_walk, unfit_walk, refused_walk, ended_passed, ended_refused}
 
 long : (bytes : List ℕ) (at len : ℕ) → at + len ≤ length bytes → length (take len (drop at bytes)) ≡ len
@@ -124,20 +127,22 @@ walked_more bytes at number len h field free = record {
   };
 }
 
+-- the ways in which whole fields lead no further
+
 pub refused_is : (bytes : List ℕ) (at number len : ℕ) → IsWalkedTo bytes at → HasField (drop at bytes) number len → is_refused number ≡ true
-    → Err (ReservedField number) ≡ answer_of (walk_over packet_start bytes)
+    → values.IsFront bytes (fronts.Refused number)
 refused_is bytes at number len h field refused =
-    sym
-    (ap answer_of
-    (ap (walk_over packet_start) (sym (take-append-drop (at + len) bytes))
+    let walked =
+    ap (walk_over packet_start) (sym (take-append-drop (at + len) bytes))
     ∙ walked_on packet_start (take (at + len) bytes) (drop (at + len) bytes)
     ∙ ap (λ (w : Walk). walk_over w (drop (at + len) bytes)) (over_one bytes at number len h field ∙ ended_refused (at + len) at number Between refused)
-    ∙ refused_walk (drop (at + len) bytes) (at + len) at number))
+    ∙ refused_walk (drop (at + len) bytes) (at + len) at number in
+    (ap (λ (w : Walk). w.part) walked, ap (λ (w : Walk). w.number) walked)
 
--- what is answered behind a field's end says nothing of the fields before
-behind_is : (bytes : List ℕ) (at start number : ℕ) → answer_of (walk_over (walk_behind at) bytes) ≡ answer_of (walk_over (walk_at at start number Between) bytes)
-behind_is [] at start number = refl
-behind_is (byte ∷ bytes) at start number = refl
+-- a field's first byte says where it begins: so what comes behind a field's end says nothing of the fields before
+behind_is : (bytes : List ℕ) (at start number : ℕ) → 0 < length bytes → walk_over (walk_behind at) bytes ≡ walk_over (walk_at at start number Between) bytes
+behind_is [] at start number some = absurd (omega (arith, some))
+behind_is (byte ∷ bytes) at start number some = refl
 
 over_rest : (bytes : List ℕ) (at : ℕ) (h : IsWalkedTo bytes at)
     → walk_over (walk_at at h.between.start h.between.number Between) (drop at bytes) ≡ walk_over packet_start bytes
@@ -146,13 +151,57 @@ over_rest bytes at h =
     ∙ sym (walked_on packet_start (take at bytes) (drop at bytes))
     ∙ ap (walk_over packet_start) (take-append-drop at bytes)
 
-pub rest_is : (bytes : List ℕ) (at : ℕ) → IsWalkedTo bytes at → answer_of (walk_over (walk_behind at) (drop at bytes)) ≡ answer_of (walk_over packet_start bytes)
-rest_is bytes at h = behind_is (drop at bytes) at h.between.start h.between.number ∙ ap answer_of (over_rest bytes at h)
+pub rest_is : (bytes : List ℕ) (at : ℕ) → IsWalkedTo bytes at → at < length bytes → values.IsFront bytes (fronts.Rest at)
+rest_is bytes at h before = (
+  before,
+  behind_is (drop at bytes) at h.between.start h.between.number (omega (arith, length-drop at bytes, before)) ∙ over_rest bytes at h,
+)
 
-pub whole_is : (bytes : List ℕ) (at : ℕ) → IsWalkedTo bytes at → length bytes ≤ at → Ok tt ≡ answer_of (walk_over packet_start bytes)
+pub whole_is : (bytes : List ℕ) (at : ℕ) → IsWalkedTo bytes at → length bytes ≤ at → values.IsFront bytes fronts.Whole
 whole_is bytes at h end =
-    sym (ap (λ (xs : List ℕ). answer_of (walk_over packet_start xs)) (sym (take_all at bytes end)) ∙ ap answer_of h.between.is)
+    ap (λ (xs : List ℕ). (walk_over packet_start xs).part) (sym (take_all at bytes end)) ∙ ap (λ (w : Walk). w.part) h.between.is
+
+-- what is answered then
+
+part_answer : (walk : Walk) (part : WalkPart) → walk.part ≡ part → answer_of walk ≡ answer_in part walk.start walk.number
+part_answer walk part is = ap (λ (p : WalkPart). answer_in p walk.start walk.number) is
+
+pub whole_answer : (bytes : List ℕ) → values.IsFront bytes fronts.Whole → Ok tt ≡ answer_of (walk_over packet_start bytes)
+whole_answer bytes h = sym (part_answer (walk_over packet_start bytes) Between h)
+
+pub refused_answer : (bytes : List ℕ) (number : ℕ) → values.IsFront bytes (fronts.Refused number)
+    → Err (ReservedField number) ≡ answer_of (walk_over packet_start bytes)
+refused_answer bytes number h =
+    sym (part_answer (walk_over packet_start bytes) Refused h.0 ∙ ap (λ (n : ℕ). Err (ReservedField n)) h.1)
+
+pub rest_answer : (bytes : List ℕ) (at : ℕ) (rest : code.Walk) → values.IsFront bytes (fronts.Rest at)
+    → values.walk_of rest ≡ walk_over (walk_behind at) (drop at bytes) → answer_of (values.walk_of rest) ≡ answer_of (walk_over packet_start bytes)
+rest_answer bytes at rest h is = ap answer_of (is ∙ h.1)
+
+-- the last field begins in the packet
+pub rest_few : (bytes : List ℕ) (at : ℕ) (rest : code.Walk) → length bytes ≤ MAX_INPUT → at < length bytes
+    → values.walk_of rest ≡ walk_over (walk_behind at) (drop at bytes) → rest.start < 2 ^ 32
+rest_few bytes at rest most before is =
+    let begun = subst (λ (w : Walk). w.start ≤ w.at) (sym is) (begun_walk (drop at bytes) (walk_behind at) (omega arith)) in
+    let place : rest.at ≡ at + length (drop at bytes) = ap (λ (w : Walk). w.at) is ∙ walk_counts (drop at bytes) (walk_behind at) in
+    omega (arith, begun, place, most, before, length-drop at bytes)
+
+pub accepted_is : (bytes : List ℕ) → is_accepted bytes ≡ is_between (walk_over packet_start bytes).part
+unfolding is_accepted
+accepted_is bytes = refl
+
+pub whole_accepted : (bytes : List ℕ) → values.IsFront bytes fronts.Whole → true ≡ is_accepted bytes
+whole_accepted bytes h = sym (accepted_is bytes ∙ ap is_between h)
+
+pub refused_accepted : (bytes : List ℕ) (number : ℕ) → values.IsFront bytes (fronts.Refused number) → false ≡ is_accepted bytes
+refused_accepted bytes number h = sym (accepted_is bytes ∙ ap is_between h.0)
+
+pub rest_accepted : (bytes : List ℕ) (at : ℕ) (rest : code.Walk) → values.IsFront bytes (fronts.Rest at)
+    → values.walk_of rest ≡ walk_over (walk_behind at) (drop at bytes) → is_between (values.part_of rest.part) ≡ is_accepted bytes
+rest_accepted bytes at rest h is = ap (λ (w : Walk). is_between w.part) (is ∙ h.1) ∙ sym (accepted_is bytes)
 
 pub ruleset piece_steps = (taken_none, taken_more, taken_all)
 
 pub ruleset check_steps = (walked_none, walked_more, refused_is, rest_is, whole_is)
+
+pub ruleset front_steps = (whole_answer, refused_answer, rest_answer, rest_few, whole_accepted, refused_accepted, rest_accepted)

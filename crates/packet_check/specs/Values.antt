@@ -1,10 +1,14 @@
 -- What the types of the code are in the words of the walk.
-use Rattle.std.specs.Prelude.{◌≡◌, ℕ, ◌^◌, ◌<◌, ◌≤◌, List, take}
+use Rattle.std.specs.Prelude.{◌≡◌, ℕ, ◌^◌, ◌<◌, ◌≤◌, List, length, take, drop}
+use Rattle.trace_base.specs.declared.limits.TheConstants.{MAX_INPUT}
+use Rattle.packet_check.specs.Answers.{walk_behind}
 use Rattle.packet_check.specs.declared.walk.Part.{Part}
 use Rattle.packet_check.specs.declared.walk.Part.TheVariants as parts
 use Rattle.packet_check.specs.declared.walk.VarintOf.{VarintOf}
 use Rattle.packet_check.specs.declared.walk.VarintOf.TheVariants as varints
 use Rattle.packet_check.specs.declared.walk.Walk.{Walk}
+use Rattle.packet_check.specs.declared.whole.Front.{Front}
+use Rattle.packet_check.specs.declared.whole.Front.TheVariants as fronts
 use Rattle.trace_model.specs.Fields.{FieldValue, wire_of, IsValue}
 use Rattle.trace_model.specs.Walks as model
 
@@ -45,3 +49,18 @@ pub record HasValue (wire : ℕ) (bytes : List ℕ) (len : ℕ) : Type 0 where
   pub value : FieldValue
   pub wire_is : wire_of value ≡ wire
   pub is : IsValue value (take len bytes)
+
+-- what holds of a check: its last field began where it is or before, and all its pieces so far have so many bytes at most
+pub record IsCheck (walk : Walk) : Type 0 where
+  pub part : IsPart walk.part
+  pub begun : walk.start ≤ walk.at
+  pub few : walk.at ≤ MAX_INPUT
+
+-- So far whole fields lead in the packet: to its end; to a field that is refused; to a place before its end, from which on the
+-- walk over what is left is that over all of it.
+abbrev pub IsFront : List ℕ → Front → Type 0
+IsFront bytes fronts.Whole = (model.walk_over model.packet_start bytes).part ≡ model.Between
+IsFront bytes (fronts.Refused number) =
+    ((model.walk_over model.packet_start bytes).part ≡ model.Refused) × ((model.walk_over model.packet_start bytes).number ≡ number)
+IsFront bytes (fronts.Rest at) =
+    (at < length bytes) × (model.walk_over (walk_behind at) (drop at bytes) ≡ model.walk_over model.packet_start bytes)

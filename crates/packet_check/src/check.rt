@@ -1,13 +1,13 @@
 //! The packet check of a packet that comes in pieces.
-ghost use Rattle.std.specs.Prelude.{◌≡◌, ◌+◌, ◌<◌, ◌≤◌, length, take, drop};
+ghost use Rattle.std.specs.Prelude.{◌≡◌, ◌+◌, ◌^◌, ◌<◌, ◌≤◌, length, take, drop};
 ghost use Rattle.packet_check.specs.Answers.{answer_of};
-ghost use Rattle.packet_check.specs.Values.{walk_of, IsPart};
+ghost use Rattle.packet_check.specs.Values.{walk_of, part_of, IsPart};
 ghost use Rattle.packet_check.specs.declared.walk.Part.TheVariants as parts;
 ghost use Rattle.trace_model.specs.Walks as model;
 
 use crate::fault::PacketFault;
 use crate::field::field_at;
-use crate::walk::{Part, Walk, content_left, field_ended, step, walk_to};
+use crate::walk::{Part, Walk, content_left, field_ended, step, walk_behind, walk_to};
 use std::marker::Model;
 use trace_base::limits::MAX_INPUT;
 
@@ -17,7 +17,7 @@ use trace_base::limits::MAX_INPUT;
 fn take_field(walk: Walk, bytes: &[u8], at: usize) -> (Walk, usize)
     requires between { walk.part ≡ parts.Between }
     requires within { at < length bytes.now }
-    requires room { walk.at + length bytes.now ≤ at + MAX_INPUT }
+    requires room { walk.at + length bytes.now ≤ at + 2 ^ 63 }
     ensures walk { walk_of result.0 ≡ model.walk_over (walk_of walk) (take result.1 (drop at bytes.now)) }
     ensures part { IsPart result.0.part }
     ensures at { result.0.at ≡ walk.at + result.1 }
@@ -27,7 +27,7 @@ fn take_field(walk: Walk, bytes: &[u8], at: usize) -> (Walk, usize)
     match field_at(bytes, at) {
         Some(field) => {
             let behind = Walk {
-                at: walk.at + field.len as u32,
+                at: walk.at + field.len as u64,
                 start: walk.at,
                 number: field.number,
                 part: Part::Between,
@@ -44,7 +44,7 @@ fn take_content(left: u64, walk: Walk, bytes: &[u8], at: usize) -> (Walk, usize)
     requires content { walk.part ≡ parts.InContent left }
     requires some { 1 ≤ left }
     requires within { at < length bytes.now }
-    requires room { walk.at + length bytes.now ≤ at + MAX_INPUT }
+    requires room { walk.at + length bytes.now ≤ at + 2 ^ 63 }
     ensures walk { walk_of result.0 ≡ model.walk_over (walk_of walk) (take result.1 (drop at bytes.now)) }
     ensures part { IsPart result.0.part }
     ensures at { result.0.at ≡ walk.at + result.1 }
@@ -55,11 +55,11 @@ fn take_content(left: u64, walk: Walk, bytes: &[u8], at: usize) -> (Walk, usize)
     if left < there as u64 {
         let taken = left as usize;
         return (
-            content_left(0, walk_to(walk, walk.at + taken as u32)),
+            content_left(0, walk_to(walk, walk.at + taken as u64)),
             taken,
         );
     }
-    let behind = walk_to(walk, walk.at + there as u32);
+    let behind = walk_to(walk, walk.at + there as u64);
     (content_left(left - there as u64, behind), there)
 }
 
@@ -68,7 +68,7 @@ fn take_content(left: u64, walk: Walk, bytes: &[u8], at: usize) -> (Walk, usize)
 fn take_in(walk: Walk, bytes: &[u8], at: usize) -> (Walk, usize)
     requires part { IsPart walk.part }
     requires within { at < length bytes.now }
-    requires room { walk.at + length bytes.now ≤ at + MAX_INPUT }
+    requires room { walk.at + length bytes.now ≤ at + 2 ^ 63 }
     ensures walk { walk_of result.0 ≡ model.walk_over (walk_of walk) (take result.1 (drop at bytes.now)) }
     ensures part { IsPart result.0.part }
     ensures at { result.0.at ≡ walk.at + result.1 }
@@ -81,11 +81,11 @@ fn take_in(walk: Walk, bytes: &[u8], at: usize) -> (Walk, usize)
         Part::InVarint { .. } => (step(walk, bytes[at]), 1),
         Part::Unfit => {
             let taken = bytes.len() - at;
-            (walk_to(walk, walk.at + taken as u32), taken)
+            (walk_to(walk, walk.at + taken as u64), taken)
         }
         Part::Refused => {
             let taken = bytes.len() - at;
-            (walk_to(walk, walk.at + taken as u32), taken)
+            (walk_to(walk, walk.at + taken as u64), taken)
         }
     }
 }
@@ -94,7 +94,7 @@ fn take_in(walk: Walk, bytes: &[u8], at: usize) -> (Walk, usize)
 #[tactic(auto, using(crate::proofs::CheckLemmas::piece_steps))]
 pub(crate) fn walk_over(walk: Walk, piece: &[u8]) -> Walk
     requires part { IsPart walk.part }
-    requires room { walk.at + length piece.now ≤ MAX_INPUT }
+    requires room { walk.at + length piece.now ≤ 2 ^ 63 }
     ensures walk { walk_of result ≡ model.walk_over (walk_of walk) piece.now }
     ensures part { IsPart result.part }
     ensures at { result.at ≡ walk.at + length piece.now }
@@ -111,6 +111,7 @@ pub(crate) fn walk_over(walk: Walk, piece: &[u8]) -> Walk
 
 /// What the walk says of the bytes that it came over.
 pub(crate) fn told_by(walk: Walk) -> Result<(), PacketFault>
+    requires few { walk.start < 2 ^ 32 }
     ensures { result ≡ answer_of (walk_of walk) }
 {
     match walk.part {
@@ -119,8 +120,20 @@ pub(crate) fn told_by(walk: Walk) -> Result<(), PacketFault>
             number: walk.number,
         }),
         Part::InVarint { .. } | Part::InContent { .. } | Part::Unfit => {
-            Err(PacketFault::Malformed { offset: walk.start })
+            Err(PacketFault::Malformed {
+                offset: walk.start as u32,
+            })
         }
+    }
+}
+
+/// Whether the bytes that a walk came over are whole fields that writers may write.
+pub(crate) fn passes(walk: Walk) -> bool
+    ensures { result ≡ model.is_between (part_of walk.part) }
+{
+    match walk.part {
+        Part::Between => true,
+        Part::InVarint { .. } | Part::InContent { .. } | Part::Unfit | Part::Refused => false,
     }
 }
 
@@ -131,14 +144,14 @@ pub struct PacketCheck {
 }
 
 impl Model for PacketCheck {
-    ghost use Rattle.packet_check.specs.Values.{walk_of, IsPart};
+    ghost use Rattle.packet_check.specs.Values.{walk_of, IsCheck};
     ghost use Rattle.trace_model.specs.Walks as model;
 
     ghost Value = { model.Walk };
 
     ghost view = { λ check. walk_of check.walk };
 
-    ghost invariant = { λ check. IsPart check.walk.part };
+    ghost invariant = { λ check. IsCheck check.walk };
 }
 
 impl PacketCheck {
@@ -151,16 +164,12 @@ impl PacketCheck {
         ensures { result ≡ packet_start }
     {
         PacketCheck {
-            walk: Walk {
-                at: 0,
-                start: 0,
-                number: 0,
-                part: Part::Between,
-            },
+            walk: walk_behind(0),
         }
     }
 
     /// Goes on with the packet's next piece, of whatever length.
+    #[tactic(auto, using(crate::proofs::RiseLemmas::placed_steps))]
     pub fn feed(&mut self, piece: &[u8])
         requires { self.old.at + length piece.now ≤ MAX_INPUT }
         ensures walk { self.new ≡ walk_over self.old piece.now }
@@ -174,5 +183,53 @@ impl PacketCheck {
         ensures { result ≡ answer_of self }
     {
         told_by(self.walk)
+    }
+}
+
+/// Whether a packet that comes in pieces passes, without its fault: for packets of any length. Contracts
+/// see it as the walk over the pieces so far.
+#[derive(Debug, Drop)]
+pub struct AcceptCheck {
+    walk: Walk,
+}
+
+impl Model for AcceptCheck {
+    ghost use Rattle.packet_check.specs.Values.{walk_of, IsPart};
+    ghost use Rattle.trace_model.specs.Walks as model;
+
+    ghost Value = { model.Walk };
+
+    ghost view = { λ check. walk_of check.walk };
+
+    ghost invariant = { λ check. IsPart check.walk.part };
+}
+
+impl AcceptCheck {
+    ghost use Rattle.std.specs.Prelude.{◌≡◌, ◌+◌, ◌^◌, ◌≤◌, length};
+    ghost use Rattle.trace_model.specs.Walks.{packet_start, walk_over, is_between};
+
+    /// The check at a packet's beginning.
+    pub fn new() -> AcceptCheck
+        ensures { result ≡ packet_start }
+    {
+        AcceptCheck {
+            walk: walk_behind(0),
+        }
+    }
+
+    /// Goes on with the packet's next piece, of whatever length.
+    pub fn feed(&mut self, piece: &[u8])
+        requires { self.old.at + length piece.now ≤ 2 ^ 63 }
+        ensures walk { self.new ≡ walk_over self.old piece.now }
+        ensures counts { self.new.at ≡ self.old.at + length piece.now }
+    {
+        self.walk = walk_over(self.walk, piece);
+    }
+
+    /// Whether the packet that ends here passes: `accepts_packet` says the same of its pieces joined.
+    pub fn accepts(&self) -> bool
+        ensures { result ≡ is_between self.now.part }
+    {
+        passes(self.walk)
     }
 }

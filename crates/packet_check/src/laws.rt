@@ -1,5 +1,6 @@
 //! Laws about the definitions: each is the contract of a function with nothing to do.
 ghost use Rattle.packet_check.specs.Laws.{AcceptedPass, AnswersAreOfTheGrammar, PacketsHaveOneAnswer, PiecesAreJoined};
+ghost use Rattle.packet_check.specs.Writers.{WritersPacketsPass};
 
 /// What a walk over a packet's bytes says is so by the grammar of fields.
 #[tactic(auto, using(crate::proofs::AnswerLemmas::answers_are_of_the_grammar))]
@@ -24,4 +25,10 @@ pub fn pieces_are_joined()
 #[tactic(auto, using(crate::proofs::AnswerLemmas::accepted_pass))]
 pub fn accepted_pass()
     ensures { AcceptedPass }
+{}
+
+/// What writers may write is accepted.
+#[tactic(auto, using(crate::proofs::PassLemmas::writers_packets_pass))]
+pub fn writers_packets_pass()
+    ensures { WritersPacketsPass }
 {}

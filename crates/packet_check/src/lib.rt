@@ -14,9 +14,10 @@ mod tests;
 mod walk;
 mod whole;
 
-pub use check::PacketCheck;
+pub use check::{AcceptCheck, PacketCheck};
 pub use fault::PacketFault;
 pub use laws::{
     accepted_pass, answers_are_of_the_grammar, packets_have_one_answer, pieces_are_joined,
+    writers_packets_pass,
 };
-pub use whole::check_packet;
+pub use whole::{accepts_packet, check_packet};

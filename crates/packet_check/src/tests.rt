@@ -282,16 +282,35 @@ fn byte_by_byte(packet: &[u8]) -> Result<(), PacketFault>
     check.end()
 }
 
+/// Whether a check of packets of any length accepts two pieces.
+fn accepts_in_two(packet: &[u8], cut: usize) -> bool
+    requires within { cut ≤ length packet.now }
+    requires most { length packet.now ≤ MAX_INPUT }
+{
+    let mut check = AcceptCheck::new();
+    check.feed(&packet[..cut]);
+    check.feed(&packet[cut..]);
+    check.accepts()
+}
+
 #[test]
 fn packets_have_their_answers(rt: HostRuntime) {
     for row in &ROWS {
         assert!(rt; row.packet.len() <= MAX_INPUT);
         assert_eq!(rt; check_packet(row.packet), row.wanted, "{}", row.name);
         assert_eq!(rt; byte_by_byte(row.packet), row.wanted, "{}", row.name);
+        let passes = row.wanted.is_ok();
+        assert_eq!(rt; accepts_packet(row.packet), passes, "{}", row.name);
         for cut in 0..=row.packet.len() {
             assert_eq!(rt;
                 in_two(row.packet, cut),
                 row.wanted,
+                "{} at {cut}",
+                row.name
+            );
+            assert_eq!(rt;
+                accepts_in_two(row.packet, cut),
+                passes,
                 "{} at {cut}",
                 row.name
             );

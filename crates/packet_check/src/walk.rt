@@ -1,13 +1,10 @@
 //! The walk over a packet's bytes, byte by byte.
 ghost use Rattle.std.specs.Prelude.{◌≡◌, ◌+◌, ◌^◌, ◌<◌};
+ghost use Rattle.packet_check.specs.Answers as spec;
 ghost use Rattle.packet_check.specs.Values.{purpose_of, part_of, walk_of, IsPart, IsVarintPart};
 ghost use Rattle.trace_model.specs.Walks as model;
 
 use trace_base::limits::MAX_FIELD;
-use trace_base::reserved::is_reserved;
-
-/// `previous_packet_dropped`: of the reserved fields the one that writers write.
-const DROPPED_FIELD: u32 = 42;
 
 /// The most that a varint's tenth byte can say within 64 bits.
 const TENTH_BYTE_MAX: u8 = 1;
@@ -45,19 +42,20 @@ pub(crate) enum Part {
 /// Where a walk has come to: how many bytes came, where the last field began, and its number.
 #[derive(Clone, Copy, Debug)]
 pub(crate) struct Walk {
-    pub at: u32,
-    pub start: u32,
+    pub at: u64,
+    pub start: u64,
     pub number: u32,
     pub part: Part,
 }
 
-/// Whether writers may not write the field.
+/// Whether writers may not write the field: it is reserved, and not `previous_packet_dropped`. Which
+/// numbers these are is said once more here, since the test of each stands in the way of each field.
 #[tactic(auto, unfolding(trace_model::specs::Walks::is_refused))]
 #[inline(always)]
 pub(crate) fn is_refused(number: u32) -> bool
     ensures { result ≡ model.is_refused number }
 {
-    is_reserved(number) && number != DROPPED_FIELD
+    matches!(number, 3 | 10 | 33 | 35 | 36 | 50 | 79)
 }
 
 /// The walk where a field has ended.
@@ -189,7 +187,7 @@ fn varint_more(purpose: VarintOf, value: u64, scale: u64, count: u8, byte: u8, w
 /// The walk with one byte more.
 pub(crate) fn step(walk: Walk, byte: u8) -> Walk
     requires part { IsPart walk.part }
-    requires room { walk.at < 2 ^ 31 }
+    requires room { walk.at < 2 ^ 63 }
     ensures walk { walk_of result ≡ model.step (walk_of walk) byte }
     ensures at { result.at ≡ walk.at + 1 }
     ensures part { IsPart result.part }
@@ -218,7 +216,7 @@ pub(crate) fn step(walk: Walk, byte: u8) -> Walk
 
 /// The walk at another place.
 #[inline(always)]
-pub(crate) fn walk_to(walk: Walk, at: u32) -> Walk
+pub(crate) fn walk_to(walk: Walk, at: u64) -> Walk
     ensures at { result.at ≡ at }
     ensures start { result.start ≡ walk.start }
     ensures number { result.number ≡ walk.number }
@@ -229,5 +227,21 @@ pub(crate) fn walk_to(walk: Walk, at: u32) -> Walk
         start: walk.start,
         number: walk.number,
         part: walk.part,
+    }
+}
+
+/// The walk behind so many bytes of whole fields.
+#[inline(always)]
+pub(crate) fn walk_behind(at: u64) -> Walk
+    ensures walk { walk_of result ≡ spec.walk_behind at }
+    ensures at { result.at ≡ at }
+    ensures start { result.start ≡ 0 }
+    ensures part { IsPart result.part }
+{
+    Walk {
+        at,
+        start: 0,
+        number: 0,
+        part: Part::Between,
     }
 }

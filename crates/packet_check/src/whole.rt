@@ -1,54 +1,73 @@
 //! The packet check of a packet that lies in one piece.
-ghost use Rattle.std.specs.Prelude.{◌≡◌, ◌<◌, ◌≤◌, length, drop, Result};
+ghost use Rattle.std.specs.Prelude.{◌≡◌, ◌^◌, ◌<◌, ◌≤◌, length, drop, Result};
 ghost use Rattle.packet_check.specs.Answers.{IsAnswer, answer_of, walk_behind};
+ghost use Rattle.packet_check.specs.Values.{IsFront, walk_of};
 ghost use Rattle.packet_check.specs.declared.fault.PacketFault.{PacketFault};
-ghost use Rattle.trace_model.specs.Walks.{packet_start, walk_over};
+ghost use Rattle.trace_model.specs.Walks.{packet_start, walk_over, is_accepted};
 
-use crate::check::{told_by, walk_over};
+use crate::check::{passes, told_by, walk_over};
 use crate::fault::PacketFault;
 use crate::field::field_at;
-use crate::walk::{Part, Walk, is_refused};
+use crate::walk::{Walk, is_refused, walk_behind};
 use trace_base::limits::MAX_INPUT;
 
-/// What is so of a packet from a place on, behind whole fields that writers may write.
-#[inline(never)]
-fn check_rest(bytes: &[u8], at: usize) -> Result<(), PacketFault>
-    requires within { at < length bytes.now }
-    requires most { length bytes.now ≤ MAX_INPUT }
-    ensures { result ≡ answer_of (walk_over (walk_behind at) (drop at bytes.now)) }
-{
-    let behind = Walk {
-        at: at as u32,
-        start: 0,
-        number: 0,
-        part: Part::Between,
-    };
-    told_by(walk_over(behind, &bytes[at..]))
+/// How far whole fields lead that writers may write.
+#[derive(Clone, Copy)]
+enum Front {
+    /// To the packet's end.
+    Whole,
+    /// To a field that they may not write.
+    Refused { number: u32 },
+    /// To a place from which on the packet has to be walked over byte by byte.
+    Rest { at: usize },
 }
 
-/// What a walk over the packet says: over whole fields as long as they are found, and then byte by
-/// byte.
+/// How far whole fields lead in the packet.
 #[tactic(auto, using(crate::proofs::CheckLemmas::check_steps))]
 #[inline(always)]
-fn walk_whole(bytes: &[u8]) -> Result<(), PacketFault>
-    requires { length bytes.now ≤ MAX_INPUT }
-    ensures { result ≡ answer_of (walk_over packet_start bytes.now) }
+fn whole_front(bytes: &[u8]) -> Front
+    requires { length bytes.now ≤ 2 ^ 62 }
+    ensures { IsFront bytes.now result }
 {
     let mut at = 0;
     while at < bytes.len() {
         match field_at(bytes, at) {
-            None => return check_rest(bytes, at),
+            None => return Front::Rest { at },
             Some(field) => {
                 if is_refused(field.number) {
-                    return Err(PacketFault::ReservedField {
+                    return Front::Refused {
                         number: field.number,
-                    });
+                    };
                 }
                 at += field.len;
             }
         }
     }
-    Ok(())
+    Front::Whole
+}
+
+/// The walk over what is left of a packet, behind whole fields that writers may write.
+#[inline(never)]
+fn walk_rest(bytes: &[u8], at: usize) -> Walk
+    requires within { at < length bytes.now }
+    requires most { length bytes.now ≤ 2 ^ 62 }
+    ensures { walk_of result ≡ walk_over (walk_behind at) (drop at bytes.now) }
+{
+    walk_over(walk_behind(at as u64), &bytes[at..])
+}
+
+/// What a walk over the packet says.
+#[tactic(auto, using(crate::proofs::CheckLemmas::front_steps))]
+#[inline(always)]
+fn walk_whole(bytes: &[u8]) -> Result<(), PacketFault>
+    requires { length bytes.now ≤ MAX_INPUT }
+    ensures { result ≡ answer_of (walk_over packet_start bytes.now) }
+{
+    match whole_front(bytes) {
+        Front::Whole => Ok(()),
+        Front::Refused { number } => Err(PacketFault::ReservedField { number }),
+        Front::Rest { at } => told_by(walk_rest(bytes, at)),
+    }
 }
 
 /// Whether the packet is fields that writers may write, and where it isn't, its first fault.
@@ -63,4 +82,17 @@ pub fn check_packet(bytes: &[u8]) -> Result<(), PacketFault>
     ensures walk { result ≡ answer_of (walk_over packet_start bytes.now) }
 {
     walk_whole(bytes)
+}
+
+/// Whether the packet is fields that writers may write, of whatever length it is.
+#[tactic(auto, using(crate::proofs::CheckLemmas::front_steps))]
+pub fn accepts_packet(bytes: &[u8]) -> bool
+    requires { length bytes.now ≤ 2 ^ 62 }
+    ensures { result ≡ is_accepted bytes.now }
+{
+    match whole_front(bytes) {
+        Front::Whole => true,
+        Front::Refused { .. } => false,
+        Front::Rest { at } => passes(walk_rest(bytes, at)),
+    }
 }
