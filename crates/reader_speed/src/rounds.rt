@@ -30,6 +30,7 @@ pub enum Kind {
     Long,
 }
 
+/// Packets of a number of five bytes and a text of 22.
 fn short_payload() -> [u8; PAYLOAD] {
     let mut payload = [7u8; PAYLOAD];
     for i in 0..120 {
@@ -38,16 +39,29 @@ fn short_payload() -> [u8; PAYLOAD] {
         payload[at + 1] = 0x80;
         payload[at + 2] = 0x80;
         payload[at + 3] = 0;
+        payload[at + 4] = 0x40;
+        payload[at + 5] = 0x87;
+        payload[at + 6] = 0x87;
+        payload[at + 7] = 0x87;
+        payload[at + 8] = 0x87;
+        payload[at + 10] = 0x5A;
+        payload[at + 11] = 22;
     }
     payload
 }
 
+/// Each chunk the same: a packet's first fragment is the tag and length of a text of 101,896 bytes,
+/// and its begin; in the others these bytes are of the text.
 fn long_payload() -> [u8; PAYLOAD] {
     let mut payload = [7u8; PAYLOAD];
     payload[0] = 0xEC;
     payload[1] = 0x9F;
     payload[2] = 0x80;
     payload[3] = 0;
+    payload[4] = 0x5A;
+    payload[5] = 0x88;
+    payload[6] = 0x9C;
+    payload[7] = 0x06;
     payload
 }
 

@@ -4,6 +4,7 @@ pub mod RowLemmas
 pub mod StepLemmas
 pub mod SpotLemmas
 pub mod ChainLemmas
+pub mod CheckingLemmas
 pub mod FoundLemmas
 pub mod PutLemmas
 pub mod TurnLemmas

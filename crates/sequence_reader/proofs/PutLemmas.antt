@@ -8,10 +8,10 @@ use Rattle.trace_model.specs.Sequences.{Cursor}
 use Rattle.sequence_reader.specs.declared.spot.Bounds.{Bounds}
 use Rattle.sequence_reader.specs.declared.spot.Spot.{Spot}
 use Rattle.sequence_reader.specs.declared.step.Piece as code
-use Rattle.sequence_reader.specs.declared.step.Step.TheVariants as step
 use Rattle.sequence_reader.specs.Spots.{rows_of, cursor_of}
 use Rattle.sequence_reader.specs.Steps.{IsPieceAt}
-use Rattle.sequence_reader.specs.Turns.{first_bytes, IsWholeAt}
+use Rattle.sequence_reader.specs.Links.{first_bytes}
+use Rattle.sequence_reader.specs.Turns.{IsWholeAt}
 
 -- the first fragment of a whole packet, and what is behind it
 pub record PutsMore (links : List Link) (bytes : List ℕ) (runs_on : Bool) (behind : List Link) (left : ℕ) : Type 0 where

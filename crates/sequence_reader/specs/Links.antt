@@ -1,10 +1,11 @@
 -- The next link of a row, as a reader finds it.
-use Rattle.std.specs.Prelude.{◌≡◌, ℕ, ◌+◌, ◌^◌, ◌≤◌, Bool, true, false, List, ◌∷◌, length, if◌then◌else◌}
+use Rattle.std.specs.Prelude.{◌≡◌, ℕ, ◌+◌, ◌^◌, ◌≤◌, Bool, true, false, List, [], ◌∷◌, length, if◌then◌else◌}
 use Rattle.trace_model.specs.Buffers.{Buffer}
 use Rattle.trace_model.specs.Reads.{Turn, Delivers, Ends, turn_of, next_of, link_bytes, stop_place, delivers}
 use Rattle.trace_model.specs.Row as row
 use Rattle.trace_model.specs.Row.{Link, Joined, bytes_of, joined_to}
 use Rattle.trace_model.specs.Sequences.{Cursor}
+use Rattle.trace_model.specs.Walks.{is_accepted}
 use Rattle.trace_buffer.specs.Answers.{turn_value}
 use Rattle.trace_buffer.specs.declared.answers.Passed.{Passed}
 use Rattle.trace_buffer.specs.declared.answers.Passed.TheVariants.{Dropped, Overwritten, Cut, Nothing}
@@ -58,6 +59,16 @@ pub record IsWalked (buffer : Buffer) (bounds : Bounds) (chain : Chain) : Type 0
   pub spot : IsSpot buffer bounds chain.next
   pub further : reach_of chain.at + chain.len ≤ reach_of chain.next
   pub near : reach_of chain.next ≤ 2 ^ 59
+
+-- the bytes of the first link
+abbrev pub first_bytes : List Link → List ℕ
+first_bytes [] = []
+first_bytes (link ∷ links) = link_bytes link
+
+-- where the chain is whole, has its start and awaits nothing, this is what the packet check says of its bytes
+abbrev pub Judges : Buffer → Bounds → Chain → Bool → Type 0
+Judges buffer bounds chain accepted = chain.fate ≡ Whole → chain.headless ≡ false → chain.awaits ≡ false
+    → accepted ≡ is_accepted (first_bytes (rows_of buffer bounds.sequence (cursor_of chain.at)))
 
 -- as what a chain that isn't delivered is passed
 abbrev pub passed_in : Fate → Passed

@@ -1,8 +1,8 @@
 -- How a read goes on from link to link, and how its steps make up the whole read.
-use Rattle.std.specs.Prelude.{⊤, ◌≡◌, ℕ, ◌+◌, ◌-◌, ◌<◌, ◌≤◌, List, [], ◌∷◌, ◌++◌, length}
+use Rattle.std.specs.Prelude.{⊤, ◌≡◌, ℕ, ◌+◌, ◌-◌, ◌^◌, ◌<◌, ◌≤◌, List, [], ◌∷◌, ◌++◌, length}
 use Rattle.byte_io.specs.Bytes.{Intake, after_told, TakesPart, Faulted}
 use Rattle.trace_model.specs.Buffers.{Buffer}
-use Rattle.trace_model.specs.Reads.{Delivery, delivered_by, with_read, read_end, is_marked, link_bytes}
+use Rattle.trace_model.specs.Reads.{Delivery, delivered_by, with_read, read_end, is_marked}
 use Rattle.trace_model.specs.Record.{record_of}
 use Rattle.trace_model.specs.Row.{Link, Joined, Chain, Whole, bytes_of}
 use Rattle.trace_model.specs.Sequences.{sequence_in}
@@ -18,11 +18,6 @@ use Rattle.sequence_reader.specs.declared.spot.Bounds.{Bounds}
 use Rattle.sequence_reader.specs.Ends.{record_bytes, row_met, why_told}
 use Rattle.sequence_reader.specs.Spots.{AreBounds, IsSpot, IsHeld, rows_of, cursor_of}
 
--- the bytes of the first link
-abbrev pub first_bytes : List Link → List ℕ
-first_bytes [] = []
-first_bytes (link ∷ links) = link_bytes link
-
 -- the row begins with a packet of so many bytes, of which nothing is missing
 pub record IsWholeAt (links : List Link) (len : ℕ) : Type 0 where
   pub chain : Chain
@@ -30,6 +25,12 @@ pub record IsWholeAt (links : List Link) (len : ℕ) : Type 0 where
   pub links_are : links ≡ Joined chain ∷ rest
   pub fate : chain.fate ≡ Whole
   pub long : length (bytes_of chain.pieces) ≡ len
+
+-- the same, of no more bytes than places of a buffer are apart
+pub record IsCountable (links : List Link) : Type 0 where
+  pub len : ℕ
+  pub whole : IsWholeAt links len
+  pub few : len ≤ 2 ^ 59
 
 -- a read has come to its spot
 pub record IsAt (buffer : Buffer) (bounds : Bounds) (progress : Progress) : Type 0 where

@@ -2,14 +2,17 @@
 ghost use Rattle.std.specs.Prelude.{◌≡◌, ◌≤◌, ◌^◌, OnOk, OnErr};
 ghost use Rattle.byte_io.specs.Bytes.{after_told, CountsFaults, TakesPart};
 ghost use Rattle.trace_model.specs.Record.{record_of};
+ghost use Rattle.trace_model.specs.Walks.{is_accepted};
 ghost use Rattle.sequence_reader.specs.Spots.{AreBounds, IsSpot, rows_of, cursor_of};
 ghost use Rattle.sequence_reader.specs.Steps.{IsPieceAt, Shows};
-ghost use Rattle.sequence_reader.specs.Turns.{first_bytes, IsWholeAt};
+ghost use Rattle.sequence_reader.specs.Links.{first_bytes};
+ghost use Rattle.sequence_reader.specs.Turns.{IsWholeAt, IsCountable};
 
 use crate::spot::{Bounds, Spot};
 use crate::step::{Piece, Step, look_at};
 use byte_io::put::WriteFault;
 use byte_io::traits::Sink;
+use packet_check::AcceptCheck;
 use trace_buffer::TraceBuffer;
 use trace_file::RecordWriter;
 
@@ -66,6 +69,28 @@ fn put_pieces<O: Sink>(
         writer.part(out, piece.bytes)?;
         if !piece.runs_on {
             return Ok(());
+        }
+        let Step::Fragment { piece: next } = look_behind(buffer, bounds, piece.behind) else {
+            unreachable!()
+        };
+        piece = next;
+    }
+}
+
+/// Whether the packet check accepts the packet that begins at a spot.
+#[tactic(auto, using(crate::proofs::CheckingLemmas::checking_steps))]
+pub fn accepts_pieces(buffer: &TraceBuffer, bounds: Bounds, spot: Spot, first: Piece<'_>) -> bool
+    requires bounds { AreBounds buffer.now bounds }
+    requires first { IsPieceAt buffer.now bounds spot first }
+    requires packet { IsCountable (rows_of buffer.now bounds.sequence (cursor_of spot)) }
+    ensures { result ≡ is_accepted (first_bytes (rows_of buffer.now bounds.sequence (cursor_of spot))) }
+{
+    let mut check = AcceptCheck::new();
+    let mut piece = first;
+    loop {
+        check.feed(piece.bytes);
+        if !piece.runs_on {
+            return check.accepts();
         }
         let Step::Fragment { piece: next } = look_behind(buffer, bounds, piece.behind) else {
             unreachable!()

@@ -1,15 +1,17 @@
 //! The next link of a row: a packet, what there is of one, a gap, or the end of the read.
-ghost use Rattle.std.specs.Prelude.{◌≡◌, ◌<◌, ◌&&◌, not, true, false, if◌then◌else◌};
+ghost use Rattle.std.specs.Prelude.{◌≡◌, ◌^◌, ◌<◌, ◌≤◌, ◌&&◌, length, not, true, false, if◌then◌else◌};
 ghost use Rattle.trace_model.specs.Buffers.{Buffer};
 ghost use Rattle.sequence_reader.specs.Spots.{AreBounds, IsSpot, IsHeld, reach_of};
 ghost use Rattle.sequence_reader.specs.Steps.{IsPieceAt};
-ghost use Rattle.sequence_reader.specs.Links.{Finds, IsWalked, passed_by};
+ghost use Rattle.sequence_reader.specs.Links.{Finds, IsWalked, Judges, passed_by};
 
 use crate::bools::{both, either};
+use crate::deliver::accepts_pieces;
 use crate::ends::Why;
 use crate::held::Held;
 use crate::spot::{Bounds, Spot};
 use crate::step::{Piece, Step, look_at, look_in};
+use packet_check::accepts_packet;
 use trace_buffer::{Passed, TraceBuffer};
 
 /// What ends a chain of fragments.
@@ -72,9 +74,11 @@ pub fn next_link(buffer: &TraceBuffer, bounds: Bounds, spot: Spot, held: Held) -
     match look_in(buffer, bounds, spot, held) {
         Step::Fragment { piece } => {
             if both(piece.runs_on, !piece.dropped) {
-                return found_of(follow_begun(buffer, bounds, spot, piece), piece);
+                let chain = follow_begun(buffer, bounds, spot, piece);
+                return found_of(chain, piece, judged_long(buffer, bounds, chain, piece));
             }
-            found_of(begun(spot, piece), piece)
+            let chain = begun(spot, piece);
+            found_of(chain, piece, judged(chain, piece))
         }
         Step::Gap { lost: _ } => Found::Passes {
             passed: Passed::Nothing,
@@ -199,16 +203,48 @@ fn ended(chain: Chain, fate: Fate) -> Chain
     }
 }
 
-/// What a read does at a chain, which begins with this fragment.
-fn found_of(chain: Chain, first: Piece<'_>) -> Found<'_>
+/// What the packet check says of a chain of this one fragment, where it would be delivered.
+#[tactic(auto, using(crate::proofs::FoundLemmas::judge_steps))]
+#[inline(always)]
+fn judged(chain: Chain, first: Piece<'_>) -> bool
+    requires few { length first.bytes.now ≤ 2 ^ 62 }
+    ensures { (buffer : Buffer) (bounds : Bounds) → IsPieceAt buffer bounds chain.at first.entry
+        → (first.entry.runs_on && not first.entry.dropped) ≡ false → Judges buffer bounds chain result }
+{
+    match chain.fate {
+        Fate::Whole if !chain.headless && !chain.awaits => accepts_packet(first.bytes),
+        _ => false,
+    }
+}
+
+/// The same of a chain of several.
+#[tactic(auto, using(crate::proofs::FoundLemmas::judge_steps))]
+fn judged_long(buffer: &TraceBuffer, bounds: Bounds, chain: Chain, first: Piece<'_>) -> bool
+    requires bounds { AreBounds buffer.now bounds }
+    requires chain { IsWalked buffer.now bounds chain }
+    requires ended { chain.goes_on ≡ false }
+    requires first { IsPieceAt buffer.now bounds chain.at first }
+    ensures { Judges buffer.now bounds chain result }
+{
+    match chain.fate {
+        Fate::Whole if !chain.headless && !chain.awaits => {
+            accepts_pieces(buffer, bounds, chain.at, first)
+        }
+        _ => false,
+    }
+}
+
+/// What a read does at a chain, which begins with this fragment. It is delivered only if it is
+/// accepted.
+fn found_of(chain: Chain, first: Piece<'_>, accepted: bool) -> Found<'_>
     requires { chain.goes_on ≡ false }
     ensures { (buffer : Buffer) (bounds : Bounds) → IsWalked buffer bounds chain → IsPieceAt buffer bounds chain.at first.entry
-        → Finds buffer bounds chain.at result }
+        → Judges buffer bounds chain accepted → Finds buffer bounds chain.at result }
 {
     let next = chain.next;
     match chain.fate {
         Fate::Open { why } => Found::Ends { why },
-        Fate::Whole if !chain.headless && !chain.awaits => Found::Delivers {
+        Fate::Whole if accepted && !chain.headless && !chain.awaits => Found::Delivers {
             first,
             len: chain.len,
             next,

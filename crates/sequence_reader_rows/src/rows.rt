@@ -12,7 +12,7 @@ struct Row {
     list: &'static [Play],
 }
 
-static ROWS: [Row; 14] = [
+static ROWS: [Row; 16] = [
     Row {
         name: "the first packet is marked, and the next one isn't",
         list: &[
@@ -232,7 +232,7 @@ static ROWS: [Row; 14] = [
                 position: 0,
                 flags: 4,
                 count: 1,
-                front: b"\x05\x0A\x80\x80\x80\x00",
+                front: b"\x06\x0A\x80\x80\x80\x00\x40",
             },
             Play::Read {
                 limit: ALL,
@@ -247,7 +247,7 @@ static ROWS: [Row; 14] = [
             },
             Play::Read {
                 limit: ALL,
-                records: b"\x0A\x0A\x0A\x81\x80\x80\x00\x50\x02\xD0\x02\x01",
+                records: b"\x0A\x0B\x0A\x81\x80\x80\x00\x40\x50\x02\xD0\x02\x01",
                 delivered: 1,
                 why: Why::Missing { chunk_id: 1 },
             },
@@ -417,7 +417,7 @@ static ROWS: [Row; 14] = [
                 position: 1,
                 flags: 4,
                 count: 1,
-                front: b"\x05\x0A\x80\x80\x80\x00",
+                front: b"\x06\x0A\x80\x80\x80\x00\x40",
             },
             Play::Read {
                 limit: ALL,
@@ -432,9 +432,55 @@ static ROWS: [Row; 14] = [
             },
             Play::Read {
                 limit: ALL,
-                records: b"\x0A\x0A\x0A\x81\x80\x80\x00\x50\x02\xD0\x02\x01",
+                records: b"\x0A\x0B\x0A\x81\x80\x80\x00\x40\x50\x02\xD0\x02\x01",
                 delivered: 1,
                 why: Why::Missing { chunk_id: 2 },
+            },
+        ],
+    },
+    Row {
+        name: "a packet that the packet check refuses is cut, and the next one is marked",
+        list: &[
+            Play::Chunk {
+                position: 0,
+                flags: 0,
+                count: 4,
+                front: b"\x02\x40\x01\x02\x50\x02\x01\x43\x02\x40\x04",
+            },
+            Play::Read {
+                limit: ALL,
+                records: b"\x0A\x07\x40\x01\x50\x02\xD0\x02\x01\x0A\x07\x40\x04\x50\x02\xD0\x02\x01",
+                delivered: 2,
+                why: Why::Missing { chunk_id: 1 },
+            },
+        ],
+    },
+    Row {
+        name: "the packet check looks at the fragments of a packet joined",
+        list: &[
+            Play::Chunk {
+                position: 0,
+                flags: 2,
+                count: 1,
+                front: b"\x02\x12\x02",
+            },
+            Play::Chunk {
+                position: 1,
+                flags: 3,
+                count: 2,
+                front: b"\x02\x61\x62\x02\x12\x02",
+            },
+            Play::Chunk {
+                position: 2,
+                flags: 1,
+                count: 2,
+                front: b"\x01\x61\x02\x40\x04",
+            },
+            Play::Read {
+                limit: ALL,
+                records: b"\x0A\x09\x12\x02\x61\x62\x50\x02\xD0\x02\x01\x0A\x07\x40\x04\x50\x02\xD0\x02\x01",
+                delivered: 2,
+                why: Why::Missing { chunk_id: 3 },
             },
         ],
     },

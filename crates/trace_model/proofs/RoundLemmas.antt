@@ -6,8 +6,9 @@ use Rattle.trace_model.specs.Encoding.{number_field}
 use Rattle.trace_model.specs.Record.{content_of, record_of}
 use Rattle.trace_model.specs.Packets.{packets_of}
 use Rattle.trace_model.specs.Cut.{IsWellFormedPage, CutsInto}
+use Rattle.trace_model.specs.Walks.{is_refused, is_number, is_accepted}
 use Rattle.trace_model.specs.WorkedWriters.{number_calls, number_page}
-use Rattle.trace_model.specs.WorkedRounds.{last_calls, lost_calls, HandsOver, AnswersFlush, Races, Crowds, WorkedRounds}
+use Rattle.trace_model.specs.WorkedRounds.{last_calls, lost_calls, HandsOver, AnswersFlush, Races, Crowds, RefusesPackets, WorkedRounds}
 
 flushed_cut : CutsInto 4080 (packets_of (number_calls 1)) (number_page 1 4074 ∷ [])
 unfolding groups varint tag redundant number_field
@@ -63,7 +64,7 @@ lost_cut = record {
 }
 
 hands_over : HandsOver
-unfolding groups varint tag redundant number_field content_of record_of
+unfolding groups varint tag redundant number_field content_of record_of is_accepted is_refused is_number
 hands_over = record {
   first_cut = flushed_cut;
   second_cut = second_cut;
@@ -73,11 +74,11 @@ hands_over = record {
 }
 
 answers : AnswersFlush
-unfolding groups varint tag redundant number_field content_of record_of
+unfolding groups varint tag redundant number_field content_of record_of is_accepted is_refused is_number
 answers = record { played = record { trace_is = refl; counts_are = refl }; first_reported = refl; second_reported = refl }
 
 races : Races
-unfolding groups varint tag redundant number_field content_of record_of
+unfolding groups varint tag redundant number_field content_of record_of is_accepted is_refused is_number
 races = record {
   kept_cut = first_cut;
   lost_cut = lost_cut;
@@ -90,8 +91,12 @@ races = record {
 }
 
 crowds : Crowds
-unfolding groups varint tag redundant number_field content_of record_of
+unfolding groups varint tag redundant number_field content_of record_of is_accepted is_refused is_number
 crowds = record { begins = refl; bodies = refl; played = record { trace_is = refl; counts_are = refl }; reported = refl }
 
+refuses : RefusesPackets
+unfolding groups varint tag redundant number_field content_of record_of is_accepted is_refused is_number
+refuses = record { played = record { trace_is = refl; counts_are = refl }; delivered = refl; cut = refl }
+
 pub worked_rounds : WorkedRounds
-worked_rounds = record { hands_over = hands_over; answers = answers; races = races; crowds = crowds }
+worked_rounds = record { hands_over = hands_over; answers = answers; races = races; crowds = crowds; refuses = refuses }

@@ -5,11 +5,12 @@ use Rattle.wire_varint.specs.Varint.{varint, groups, tag, redundant}
 use Rattle.trace_model.specs.Encoding.{number_field, bytes_head, bytes_field}
 use Rattle.trace_model.specs.Record.{content_of, record_of}
 use Rattle.trace_model.specs.Cut.{IsWellFormedPage}
+use Rattle.trace_model.specs.Walks.{is_refused, is_number, is_accepted}
 use Rattle.trace_model.specs.WorkedWriters.{letters, small_pages, empty_pages, long_pages, patched_pages, moved_pages, given_up_pages}
 use Rattle.trace_model.specs.WorkedRows.{shared_pages, WorkedRows, SmallPacket, EmptyPacket, LongPacket, PatchedPacket, MovedLength, GivenUpPacket, OverwritesUnread, DiscardsRest, FillsBuffer, DropsAtBegin, LosesScraped, RewritesScraped, ClosesUnpatched, AwaitsPatch, RunsIntoDiscarded, halved_pages}
 
 small : SmallPacket
-unfolding groups varint tag redundant number_field bytes_head bytes_field content_of record_of
+unfolding groups varint tag redundant number_field bytes_head bytes_field content_of record_of is_accepted is_refused is_number
 small = record {
   cut = record {
     full = All-from_recursion (IsWellFormedPage 284) small_pages (
@@ -27,7 +28,7 @@ small = record {
 }
 
 empty : EmptyPacket
-unfolding groups varint tag redundant number_field bytes_head bytes_field content_of record_of
+unfolding groups varint tag redundant number_field bytes_head bytes_field content_of record_of is_accepted is_refused is_number
 empty = record {
   cut = record {
     full = All-from_recursion (IsWellFormedPage 284) empty_pages (
@@ -45,7 +46,7 @@ empty = record {
 }
 
 long : LongPacket
-unfolding groups varint tag redundant number_field bytes_head bytes_field content_of record_of
+unfolding groups varint tag redundant number_field bytes_head bytes_field content_of record_of is_accepted is_refused is_number
 long = record {
   cut = record {
     full = All-from_recursion (IsWellFormedPage 284) long_pages (
@@ -66,7 +67,7 @@ long = record {
 }
 
 patched : PatchedPacket
-unfolding groups varint tag redundant number_field bytes_head bytes_field content_of record_of
+unfolding groups varint tag redundant number_field bytes_head bytes_field content_of record_of is_accepted is_refused is_number
 patched = record {
   cut = record {
     full = All-from_recursion (IsWellFormedPage 284) patched_pages (
@@ -87,7 +88,7 @@ patched = record {
 }
 
 moved : MovedLength
-unfolding groups varint tag redundant number_field bytes_head bytes_field content_of record_of
+unfolding groups varint tag redundant number_field bytes_head bytes_field content_of record_of is_accepted is_refused is_number
 moved = record {
   cut = record {
     full = All-from_recursion (IsWellFormedPage 284) moved_pages (
@@ -108,7 +109,7 @@ moved = record {
 }
 
 given_up : GivenUpPacket
-unfolding groups varint tag redundant number_field bytes_head bytes_field content_of record_of
+unfolding groups varint tag redundant number_field bytes_head bytes_field content_of record_of is_accepted is_refused is_number
 given_up = record {
   cut = record {
     full = All-from_recursion (IsWellFormedPage 2036) given_up_pages (
@@ -153,19 +154,19 @@ given_up = record {
 }
 
 overwrites : OverwritesUnread
-unfolding groups varint tag redundant number_field bytes_head bytes_field content_of record_of
+unfolding groups varint tag redundant number_field bytes_head bytes_field content_of record_of is_accepted is_refused is_number
 overwrites = record { played = record { trace_is = refl; counts_are = refl }; reported = refl }
 
 discards : DiscardsRest
-unfolding groups varint tag redundant number_field bytes_head bytes_field content_of record_of
+unfolding groups varint tag redundant number_field bytes_head bytes_field content_of record_of is_accepted is_refused is_number
 discards = record { played = record { trace_is = refl; counts_are = refl }; reported = refl }
 
 fills : FillsBuffer
-unfolding groups varint tag redundant number_field bytes_head bytes_field content_of record_of
+unfolding groups varint tag redundant number_field bytes_head bytes_field content_of record_of is_accepted is_refused is_number
 fills = record { trace_is = refl; counts_are = refl }
 
 drops : DropsAtBegin
-unfolding groups varint tag redundant number_field bytes_head bytes_field content_of record_of
+unfolding groups varint tag redundant number_field bytes_head bytes_field content_of record_of is_accepted is_refused is_number
 drops = record {
   cut = record {
     full = All-from_recursion (IsWellFormedPage 4080) shared_pages (
@@ -186,19 +187,19 @@ drops = record {
 }
 
 loses : LosesScraped
-unfolding groups varint tag redundant number_field bytes_head bytes_field content_of record_of
+unfolding groups varint tag redundant number_field bytes_head bytes_field content_of record_of is_accepted is_refused is_number
 loses = record { trace_is = refl; counts_are = refl }
 
 rewrites : RewritesScraped
-unfolding groups varint tag redundant number_field bytes_head bytes_field content_of record_of
+unfolding groups varint tag redundant number_field bytes_head bytes_field content_of record_of is_accepted is_refused is_number
 rewrites = record { trace_is = refl; counts_are = refl }
 
 closes : ClosesUnpatched
-unfolding groups varint tag redundant number_field bytes_head bytes_field content_of record_of
+unfolding groups varint tag redundant number_field bytes_head bytes_field content_of record_of is_accepted is_refused is_number
 closes = record { played = record { trace_is = refl; counts_are = refl }; reported = refl }
 
 awaits : AwaitsPatch
-unfolding groups varint tag redundant number_field bytes_head bytes_field content_of record_of
+unfolding groups varint tag redundant number_field bytes_head bytes_field content_of record_of is_accepted is_refused is_number
 awaits = record {
   played = record { trace_is = refl; counts_are = refl };
   waits = refl;
@@ -207,7 +208,7 @@ awaits = record {
 }
 
 halved : RunsIntoDiscarded
-unfolding groups varint tag redundant number_field bytes_head bytes_field content_of record_of
+unfolding groups varint tag redundant number_field bytes_head bytes_field content_of record_of is_accepted is_refused is_number
 halved = record {
   cut = record {
     full = All-from_recursion (IsWellFormedPage 2036) halved_pages (

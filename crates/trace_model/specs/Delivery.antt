@@ -27,6 +27,13 @@ pub record IsFaithful (emitted : List (List (List ℕ))) (delivered : List Deliv
   pub told : (writer : ℕ) (packets : List (List ℕ)) → slice_get emitted writer ≡ Some packets
       → Tells packets (sequence_of writer) (records_of (sequence_of writer) delivered)
 
+-- The same of these writers' own records alone, where others may commit chunks in a writer's name: what stands in the other sequences
+-- is free.
+pub record IsFaithfulOf (Own : ℕ → Type 0) (emitted : List (List (List ℕ))) (delivered : List Delivered) : Type 0 where
+  pub known : All (λ d. (2 ≤ d.sequence) × (d.sequence < sequence_of (length emitted))) delivered
+  pub told : (writer : ℕ) (packets : List (List ℕ)) → Own writer → slice_get emitted writer ≡ Some packets
+      → Tells packets (sequence_of writer) (records_of (sequence_of writer) delivered)
+
 -- no packet of any writer is missing
 abbrev pub IsComplete : List (List (List ℕ)) → List Delivered → Type 0
 IsComplete emitted delivered = (writer : ℕ) (packets : List (List ℕ)) → slice_get emitted writer ≡ Some packets

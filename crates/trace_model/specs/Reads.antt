@@ -3,7 +3,8 @@ use Rattle.std.specs.Prelude.{ℕ, ◌-◌, Bool, true, false, ◌&&◌, ◌||�
 use Rattle.trace_model.specs.Counts.{raised, one_if}
 use Rattle.trace_model.specs.Sequences.{Sequence, Cursor, first_place, sequence_in, changed_at}
 use Rattle.trace_model.specs.Buffers.{Buffer}
-use Rattle.trace_model.specs.Row.{Fate, Whole, Marked, IntoLost, CutOff, Open, Link, Joined, Gap, Stop, bytes_of, row_from_cursor, Why, End}
+use Rattle.trace_model.specs.Row.{Fate, Whole, Marked, IntoLost, CutOff, Open, Chain, Link, Joined, Gap, Stop, bytes_of, row_from_cursor, Why, End}
+use Rattle.trace_model.specs.Walks.{is_accepted}
 
 -- why a packet isn't delivered: its writer dropped it; it was overwritten, or discarded; none of these
 pub data Cause : Type 0 where
@@ -19,18 +20,23 @@ pub data Turn : Type 0 where
   Skips : Turn
   Ends : Turn
 
--- what a read does with a chain of this fate: it is delivered only where it has its start and awaits no patch
-abbrev pub turn_by : Fate → (headless awaits : Bool) → Turn
-turn_by Open headless awaits = Ends
-turn_by Whole true awaits = Skips
-turn_by Whole false awaits = if awaits then Counts Cut else Delivers
-turn_by Marked headless awaits = if headless then Skips else Counts Dropped
-turn_by IntoLost headless awaits = if headless then Skips else Counts Lost
-turn_by CutOff headless awaits = if headless then Skips else Counts Cut
+-- what a read does with a chain of this fate: it is delivered only where it has its start and isn't spoilt
+abbrev pub turn_by : Fate → (headless spoilt : Bool) → Turn
+turn_by Open headless spoilt = Ends
+turn_by Whole true spoilt = Skips
+turn_by Whole false spoilt = if spoilt then Counts Cut else Delivers
+turn_by Marked headless spoilt = if headless then Skips else Counts Dropped
+turn_by IntoLost headless spoilt = if headless then Skips else Counts Lost
+turn_by CutOff headless spoilt = if headless then Skips else Counts Cut
+
+-- The chain awaits a patch still, or its bytes aren't fields that writers may write: this project's profile, in which what a
+-- service hands on is whole messages and has none of the service's own fields. Only a whole chain is asked.
+abbrev pub is_spoilt : Chain → Bool
+is_spoilt chain = chain.awaits || not (is_accepted (bytes_of chain.pieces))
 
 -- what a read does with a link of the row
 abbrev pub turn_of : Link → Turn
-turn_of (Joined chain) = turn_by chain.fate chain.headless chain.awaits
+turn_of (Joined chain) = turn_by chain.fate chain.headless (is_spoilt chain)
 turn_of (Gap at next lost) = Skips
 turn_of (Stop at why may) = Ends
 

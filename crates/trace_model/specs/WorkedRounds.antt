@@ -1,5 +1,5 @@
--- Worked examples of two writers who share one chunk or wait for each other, and of a chunk with as many fragments as it
--- may have.
+-- Worked examples of two writers who share one chunk or wait for each other, of a chunk with as many fragments as it may
+-- have, and of packets that the packet check refuses.
 use Rattle.std.specs.Prelude.{◌≡◌, ℕ, ◌*◌, false, IsTrue, List, [], ◌∷◌, ◌++◌, map, replicate}
 use Rattle.std.specs.List.{repeat}
 use Rattle.trace_base.specs.declared.limits.TheConstants.{MAX_FRAGMENTS}
@@ -8,9 +8,9 @@ use Rattle.trace_model.specs.Calls.{Call, Begun, Number, Finished}
 use Rattle.trace_model.specs.Encoding.{NoFields, NumberField}
 use Rattle.trace_model.specs.Packets.{packets_of, body_of}
 use Rattle.trace_model.specs.Pages.{Page}
-use Rattle.trace_model.specs.Sequences.{fresh}
+use Rattle.trace_model.specs.Sequences.{Sequence, fresh, sequence_in}
 use Rattle.trace_model.specs.Buffers.{Buffer, empty_buffer}
-use Rattle.trace_model.specs.History.{Event, Read}
+use Rattle.trace_model.specs.History.{Event, Read, state_after}
 use Rattle.trace_model.specs.Balance.{PacketCounts}
 use Rattle.trace_model.specs.Cut.{CutsInto, all_begin_well}
 use Rattle.trace_model.specs.Row.{Chain, bytes_of}
@@ -95,9 +95,28 @@ pub record Crowds : Type 0 where
       (only_placed 2)
   pub reported : IsReported crowded_buffer crowded_events 2 crowded_calls (all_delivered 1024)
 
+-- What no writer of its own would leave in one chunk: a number; a field of the service's; the begin of a group; a number again.
+abbrev pub foreign_pages : List Page
+foreign_pages = plain_page ((0x40 ∷ 0x01 ∷ []) ∷ (0x50 ∷ 0x02 ∷ []) ∷ (0x43 ∷ []) ∷ (0x40 ∷ 0x04 ∷ []) ∷ []) 261 ∷ []
+
+-- the chunk is taken, and then the end
+abbrev pub foreign_events : List Event
+foreign_events = taken 2 0 foreign_pages ++ ended
+
+-- the state of the writer's sequence then
+abbrev pub foreign_state : Sequence
+foreign_state = sequence_in (state_after (ring_of 64 284) foreign_events).sequences 2
+
+-- a packet that the packet check refuses is passed, counts as cut, and the next one is marked
+pub record RefusesPackets : Type 0 where
+  pub played : IsPlayed (ring_of 64 284) foreign_events (marked_record 2 1 ++ marked_record 2 4) (only_placed 1)
+  pub delivered : foreign_state.delivered ≡ 2
+  pub cut : foreign_state.cut ≡ 2
+
 -- All of them
 pub record WorkedRounds : Type 0 where
   pub hands_over : HandsOver
   pub answers : AnswersFlush
   pub races : Races
   pub crowds : Crowds
+  pub refuses : RefusesPackets

@@ -52,8 +52,8 @@ pub fn worked_rows()
     ensures { WorkedRows }
 {}
 
-/// So they do for two writers who share one chunk or wait for each other, and for a chunk with as
-/// many fragments as it may have.
+/// So they do for two writers who share one chunk or wait for each other, for a chunk with as many
+/// fragments as it may have, and for packets that the packet check refuses.
 pub fn worked_rounds()
     ensures { WorkedRounds }
 {}

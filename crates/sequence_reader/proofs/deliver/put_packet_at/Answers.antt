@@ -5,7 +5,7 @@ use Rattle.byte_io.specs.Bytes.{Intake, after_told, TakesPart}
 use Rattle.trace_file.specs.Parts.{Writing, record_head, record_tail}
 use Rattle.trace_file.proofs.RecordLemmas.{written_whole, part_of_head, part_of_body, part_of_tail}
 use Rattle.sequence_reader.specs.Spots.{rows_of, cursor_of}
-use Rattle.sequence_reader.specs.Turns.{first_bytes}
+use Rattle.sequence_reader.specs.Links.{first_bytes}
 use Rattle.sequence_reader.proofs.PutLemmas.{first_long, on_err}
 use Rattle.sequence_reader.proofs.deliver.put_packet_at.Goals as goal
 
