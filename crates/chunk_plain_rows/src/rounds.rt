@@ -16,23 +16,24 @@ use std::alloc::Global;
 use std::test::Fail;
 use trace_base::policy::{WriterPolicy, WriterSpec};
 
-/// Puts two fragments into the copy, of two bytes and of one.
+/// Puts two fragments into the copy, each a packet of two bytes: field 1 with a number.
 fn put_fragments(held: &mut Held)
-    requires { 5 ≤ vec_len held.old.body.payload }
+    requires { 6 ≤ vec_len held.old.body.payload }
     ensures chunk { held.new.chunk ≡ held.old.chunk }
     ensures position { held.new.position ≡ held.old.position }
     ensures size { vec_len held.new.body.payload ≡ vec_len held.old.body.payload }
     ensures first { byte_in held.new.body.payload.items 0 ≡ 2 }
 {
-    held.body.payload[4] = 9;
-    held.body.payload[3] = 1;
-    held.body.payload[2] = 8;
-    held.body.payload[1] = 7;
+    held.body.payload[5] = 9;
+    held.body.payload[4] = 8;
+    held.body.payload[3] = 2;
+    held.body.payload[2] = 7;
+    held.body.payload[1] = 8;
     held.body.payload[0] = 2;
 }
 
-/// Claims and begins a chunk and writes two fragments, of two bytes and of one; the header counts
-/// both, so the first one is finished. None where the chunk was claimed.
+/// Claims and begins a chunk and writes two fragments of two bytes each; the header counts both, so
+/// the first one is finished. None where the chunk was claimed.
 pub(crate) fn write<W: Words>(
     table: &mut W,
     seat: &mut W::Writer,
@@ -55,7 +56,7 @@ pub(crate) fn write<W: Words>(
     let claimed = table.claim_try(seat, chunk)?;
     let mut held = table.begin(seat, claimed, id);
     put_fragments(&mut held);
-    table.publish(seat, &mut held, 0, 5);
+    table.publish(seat, &mut held, 0, 6);
     table.set_header(seat, &mut held, 2, 0);
     Some(held)
 }
@@ -121,14 +122,14 @@ fn drain<W: Words>(
 #[derive(Clone, Copy, Debug, PartialEq, Eq)]
 struct Scraped {
     count: u16,
-    first: [u8; 5],
-    taken: [u8; 5],
+    first: [u8; 6],
+    taken: [u8; 6],
 }
 
-fn first_five(bytes: &[u8]) -> [u8; 5]
-    requires { 5 ≤ length bytes.now }
+fn first_six(bytes: &[u8]) -> [u8; 6]
+    requires { 6 ≤ length bytes.now }
 {
-    [bytes[0], bytes[1], bytes[2], bytes[3], bytes[4]]
+    [bytes[0], bytes[1], bytes[2], bytes[3], bytes[4], bytes[5]]
 }
 
 /// The first writer writes under its first id, the service scrapes, the writer finishes and the service takes the chunk.
@@ -159,8 +160,8 @@ fn scrape_and_take<W: Words>(
     };
     let scraped = Scraped {
         count: seen.header.count,
-        first: first_five(into),
-        taken: first_five(&taken.body.payload),
+        first: first_six(into),
+        taken: first_six(&taken.body.payload),
     };
     table.release(service, taken);
     Some(scraped)
@@ -218,8 +219,8 @@ fn scrape_one(alloc: Global) -> Result<Option<Scraped>, Fail> {
 fn finds_scraped_fragments_again(rt: HostRuntime) -> Result<(), Fail> {
     let found = Scraped {
         count: 2,
-        first: [2, 7, 8, 1, 9],
-        taken: [2, 7, 8, 1, 9],
+        first: [2, 8, 7, 2, 8, 9],
+        taken: [2, 8, 7, 2, 8, 9],
     };
     assert_eq!(rt; scrape_one(rt.alloc())?, Some(found));
     Ok(())

@@ -121,11 +121,11 @@ fn delivers_a_scraped_packet_once(rt: HostRuntime) -> Result<(), Fail> {
     };
     let (played, end) = played_round(rt.alloc(), &mut sink)?.ok_or("a claimed chunk")?;
     assert_eq!(rt; played, round);
-    // A packet of two bytes and one of one byte, each with its sequence; the first one of a sequence
-    // says that what came before is unknown.
+    // Two packets of two bytes, each with its sequence; the first one of a sequence says that what
+    // came before is unknown.
     assert_eq!(rt;
         sink.taken(),
-        b"\x0A\x07\x07\x08\x50\x02\xD0\x02\x01\x0A\x03\x09\x50\x02".as_slice()
+        b"\x0A\x07\x08\x07\x50\x02\xD0\x02\x01\x0A\x04\x08\x09\x50\x02".as_slice()
     );
     // The part got a place, which the whole chunk took over.
     let counts = BufferCounts {

@@ -23,8 +23,8 @@ take-requires-clause-chunk g c =
     let inside = chunk_inside (g.W.Words.means.setup c.args.table.now) _ c.args.chunk laid c.requires.chunk in
     subst (λ (s : Setup). c.args.chunk < length s.spots) (sym setup_is) inside
 
-pub first_five-requires : goal.first_five-requires
-first_five-requires g c =
+pub first_six-requires : goal.first_six-requires
+first_six-requires g c =
     let setup_is = c.finish.ensures.step.setup_stays ∙ (c.load.ensures.step.setup_stays ∙ (c.look-seen.ensures.step.setup_stays ∙ c.in_ok-held.ensures.step.setup_stays)) in
     let laid = g.met.W.Words.laid c.args.table.now in
     let inside = chunk_inside (g.W.Words.means.setup c.args.table.now) _ c.args.chunk laid c.requires.chunk in
@@ -32,8 +32,8 @@ first_five-requires g c =
     let size = c.load.ensures.size ∙ c.requires.size in
     omega (arith, size, least)
 
-pub first_five-requires-2 : goal.first_five-requires-2
-first_five-requires-2 g c =
+pub first_six-requires-2 : goal.first_six-requires-2
+first_six-requires-2 g c =
     let setup_is = c.finish.ensures.step.setup_stays ∙ (c.load.ensures.step.setup_stays ∙ (c.look-seen.ensures.step.setup_stays ∙ c.in_ok-held.ensures.step.setup_stays)) in
     let laid = g.met.W.Words.laid c.args.table.now in
     let inside = chunk_inside (g.W.Words.means.setup c.args.table.now) _ c.args.chunk laid c.requires.chunk in

@@ -42,7 +42,7 @@ set_header-requires-clause-held g c =
     let at_least = (g.met.W.Words.laid c.args.table.now).least c.args.chunk (chunk_inside (g.W.Words.means.setup c.args.table.now) _ c.args.chunk (g.met.W.Words.laid c.args.table.now) c.requires.chunk) in
     let spot_is : (spot (g.W.Words.means.setup c.claim_try.new.self) c.in_ok-claimed.claimed.chunk).payload_size ≡ (spot (g.W.Words.means.setup c.args.table.now) c.args.chunk).payload_size =
     ap (λ d. (spot (g.W.Words.means.setup c.claim_try.new.self) d).payload_size) c.in_ok-claimed.ensures.chunk ∙ ap (λ s. (spot s c.args.chunk).payload_size) c.in_ok-claimed.ensures.step.setup_stays in
-    let all = published_more view1 view2 held.chunk held.position 0 5 copy holding bytes (omega arith) (omega arith) (λ j less. absurd (omega arith)) in
+    let all = published_more view1 view2 held.chunk held.position 0 6 copy holding bytes (omega arith) (omega arith) (λ j less. absurd (omega arith)) in
     let sealed = short_fragment (published view2 held.position) 2 (all 0 (omega arith) ∙ c.put_fragments.ensures.first) (omega arith) in
     redrafts_holds view1 view2 held c.publish.new.held draft bytes.view c.publish.ensures.held holding
 
@@ -61,7 +61,7 @@ set_header-requires-clause-reads g c =
     let at_least = (g.met.W.Words.laid c.args.table.now).least c.args.chunk (chunk_inside (g.W.Words.means.setup c.args.table.now) _ c.args.chunk (g.met.W.Words.laid c.args.table.now) c.requires.chunk) in
     let spot_is : (spot (g.W.Words.means.setup c.claim_try.new.self) c.in_ok-claimed.claimed.chunk).payload_size ≡ (spot (g.W.Words.means.setup c.args.table.now) c.args.chunk).payload_size =
     ap (λ d. (spot (g.W.Words.means.setup c.claim_try.new.self) d).payload_size) c.in_ok-claimed.ensures.chunk ∙ ap (λ s. (spot s c.args.chunk).payload_size) c.in_ok-claimed.ensures.step.setup_stays in
-    let all = published_more view1 view2 held.chunk held.position 0 5 copy holding bytes (omega arith) (omega arith) (λ j less. absurd (omega arith)) in
+    let all = published_more view1 view2 held.chunk held.position 0 6 copy holding bytes (omega arith) (omega arith) (λ j less. absurd (omega arith)) in
     let sealed = short_fragment (published view2 held.position) 2 (all 0 (omega arith) ∙ c.put_fragments.ensures.first) (omega arith) in
     subst (λ (h : HeldToken). HasFragments (published view2 h.position) (ends_by view2 h.position 2)) (sym c.publish.ensures.held) sealed.0
 
@@ -80,7 +80,7 @@ set_header-requires-clause-inside g c =
     let at_least = (g.met.W.Words.laid c.args.table.now).least c.args.chunk (chunk_inside (g.W.Words.means.setup c.args.table.now) _ c.args.chunk (g.met.W.Words.laid c.args.table.now) c.requires.chunk) in
     let spot_is : (spot (g.W.Words.means.setup c.claim_try.new.self) c.in_ok-claimed.claimed.chunk).payload_size ≡ (spot (g.W.Words.means.setup c.args.table.now) c.args.chunk).payload_size =
     ap (λ d. (spot (g.W.Words.means.setup c.claim_try.new.self) d).payload_size) c.in_ok-claimed.ensures.chunk ∙ ap (λ s. (spot s c.args.chunk).payload_size) c.in_ok-claimed.ensures.step.setup_stays in
-    let all = published_more view1 view2 held.chunk held.position 0 5 copy holding bytes (omega arith) (omega arith) (λ j less. absurd (omega arith)) in
+    let all = published_more view1 view2 held.chunk held.position 0 6 copy holding bytes (omega arith) (omega arith) (λ j less. absurd (omega arith)) in
     let sealed = short_fragment (published view2 held.position) 2 (all 0 (omega arith) ∙ c.put_fragments.ensures.first) (omega arith) in
     let setup_is = c.publish.ensures.step.setup_stays ∙ (c.begin-held.ensures.step.setup_stays ∙ c.in_ok-claimed.ensures.step.setup_stays) in
     let chunk_is = c.put_fragments.ensures.chunk ∙ (c.begin-held.ensures.held.chunk_is ∙ c.in_ok-claimed.ensures.chunk) in
@@ -104,7 +104,7 @@ returns-clause-holding g c =
     let at_least = (g.met.W.Words.laid c.args.table.now).least c.args.chunk (chunk_inside (g.W.Words.means.setup c.args.table.now) _ c.args.chunk (g.met.W.Words.laid c.args.table.now) c.requires.chunk) in
     let spot_is : (spot (g.W.Words.means.setup c.claim_try.new.self) c.in_ok-claimed.claimed.chunk).payload_size ≡ (spot (g.W.Words.means.setup c.args.table.now) c.args.chunk).payload_size =
     ap (λ d. (spot (g.W.Words.means.setup c.claim_try.new.self) d).payload_size) c.in_ok-claimed.ensures.chunk ∙ ap (λ s. (spot s c.args.chunk).payload_size) c.in_ok-claimed.ensures.step.setup_stays in
-    let all = published_more view1 view2 held.chunk held.position 0 5 copy holding bytes (omega arith) (omega arith) (λ j less. absurd (omega arith)) in
+    let all = published_more view1 view2 held.chunk held.position 0 6 copy holding bytes (omega arith) (omega arith) (λ j less. absurd (omega arith)) in
     let sealed = short_fragment (published view2 held.position) 2 (all 0 (omega arith) ∙ c.put_fragments.ensures.first) (omega arith) in
     let view3 = g.W.Words.means.view c.set_header.new.self c.set_header.new.seat in
     let holding2 = redrafts_holds view1 view2 held c.publish.new.held draft bytes.view c.publish.ensures.held holding in
@@ -126,7 +126,7 @@ returns-clause-sealed g c =
     let at_least = (g.met.W.Words.laid c.args.table.now).least c.args.chunk (chunk_inside (g.W.Words.means.setup c.args.table.now) _ c.args.chunk (g.met.W.Words.laid c.args.table.now) c.requires.chunk) in
     let spot_is : (spot (g.W.Words.means.setup c.claim_try.new.self) c.in_ok-claimed.claimed.chunk).payload_size ≡ (spot (g.W.Words.means.setup c.args.table.now) c.args.chunk).payload_size =
     ap (λ d. (spot (g.W.Words.means.setup c.claim_try.new.self) d).payload_size) c.in_ok-claimed.ensures.chunk ∙ ap (λ s. (spot s c.args.chunk).payload_size) c.in_ok-claimed.ensures.step.setup_stays in
-    let all = published_more view1 view2 held.chunk held.position 0 5 copy holding bytes (omega arith) (omega arith) (λ j less. absurd (omega arith)) in
+    let all = published_more view1 view2 held.chunk held.position 0 6 copy holding bytes (omega arith) (omega arith) (λ j less. absurd (omega arith)) in
     let sealed = short_fragment (published view2 held.position) 2 (all 0 (omega arith) ∙ c.put_fragments.ensures.first) (omega arith) in
     let view3 = g.W.Words.means.view c.set_header.new.self c.set_header.new.seat in
     let holding2 = redrafts_holds view1 view2 held held draft bytes.view refl holding in
