@@ -1,5 +1,5 @@
 -- How an emitter takes calls, one after another.
-use Rattle.std.proofs.Common.{◌≡◌, ◌≢◌, ◌∙◌, ℕ, zero, suc, ◌+◌, ◌*◌, ◌^◌, ◌<◌, ◌≤◌, Bool, true, false, List, [], ◌∷◌, ◌++◌, Option, Some, None, Result, Ok, Err, OnOk, length, map, take, drop, refl, sym, ap, subst, arith, append_assoc, length-append}
+use Rattle.std.proofs.Common.{◌≡◌, ◌≢◌, ◌∙◌, ℕ, zero, suc, ◌+◌, ◌*◌, ◌^◌, ◌<◌, ◌≤◌, Bool, true, false, List, [], ◌∷◌, ◌++◌, Some, Result, Ok, Err, OnOk, length, map, take, drop, refl, sym, ap, subst, arith, append_assoc, length-append}
 use Rattle.std.specs.Prelude.{fold, not, slice_get}
 use Rattle.std.specs.List.{repeat}
 use Rattle.std.proofs.lemmas.Bool.{false≢true}

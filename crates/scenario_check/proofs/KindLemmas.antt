@@ -60,3 +60,4 @@ rest_takes (line.Close producer) old packet add nest unnest end = takes_fewer _ 
 rest_takes (line.Read buffer limit) old packet add nest unnest end = takes_fewer _ _ 0 1 old old (lit≤ tt) (takes_none old)
 rest_takes line.Request old packet add nest unnest end = takes_fewer _ _ 0 1 old old (lit≤ tt) (takes_none old)
 rest_takes (line.CloneBuffer buffer) old packet add nest unnest end = takes_fewer _ _ 0 1 old old (lit≤ tt) (takes_none old)
+rest_takes (line.Raw writer chunk) old packet add nest unnest end = takes_fewer _ _ 0 1 old old (lit≤ tt) (takes_none old)

@@ -1,5 +1,5 @@
 -- How the emitters of all writers go on with lines.
-use Rattle.std.proofs.Common.{◌≡◌, ◌≢◌, ◌∙◌, ℕ, zero, suc, ◌+◌, ◌<◌, ◌≤◌, ◌⊎◌, nat_eq, Bool, true, false, cond, List, [], ◌∷◌, ◌++◌, Some, length, set, take, drop, refl, sym, ap, subst, arith, inl, inr, length-append, append_assoc}
+use Rattle.std.proofs.Common.{◌≡◌, ◌≢◌, ◌∙◌, ℕ, zero, suc, ◌+◌, ◌<◌, ◌≤◌, ◌⊎◌, nat_eq, Bool, true, false, cond, List, [], ◌∷◌, ◌++◌, Some, length, set, refl, sym, ap, subst, arith, inl, inr, length-append, append_assoc}
 use Rattle.std.specs.Prelude.{fold, slice_get}
 use Rattle.std.proofs.lemmas.Bool.{cases_eq, eq-eqb, ne_eqb}
 use Rattle.std.proofs.lemmas.Grind.{flat_map-append}
@@ -10,7 +10,7 @@ use Rattle.trace_model.specs.Calls.{Call}
 use Rattle.trace_model.specs.Packets.{Account, account_of, noted, nothing_yet}
 use Rattle.emitted_packets.specs.declared.emitter.Emitter.{Emitter}
 use Rattle.scenario_text.specs.declared.scenario.LineKind.{LineKind}
-use Rattle.scenario_text.specs.declared.scenario.LineKind.TheVariants.{Packet, Begin, Add, Nest, Unnest, End, Flush, Collect, Scrape, Close, Read, Request, CloneBuffer}
+use Rattle.scenario_text.specs.declared.scenario.LineKind.TheVariants.{Packet, Begin, Add, Nest, Unnest, End, Flush, Collect, Scrape, Close, Read, Request, CloneBuffer, Raw}
 use Rattle.scenario_text.specs.declared.scenario.NumberedLine.{NumberedLine}
 use Rattle.scenario_text.specs.Accepted.{line_calls, named_calls, calls_asked, AreAccepted}
 use Rattle.scenario_text.specs.Lengths.{line_len}
@@ -19,7 +19,6 @@ use Rattle.scenario_text.proofs.ShortLemmas.{lines_push}
 use Rattle.scenario_text.proofs.AcceptedFields.{accepted_front, accepted_back}
 use Rattle.scenario_check.specs.Progress.{Holds, MayTake, Takes, named_writer, HasTaken, HaveTaken, MayCome}
 use Rattle.scenario_check.proofs.AskedLemmas.{push_there}
-use Rattle.scenario_check.proofs.CallLemmas.{split_there}
 
 -- ---- what a line asks
 
@@ -44,6 +43,8 @@ named_at true number Request is = refl
 named_at false number Request is = refl
 named_at true number (CloneBuffer buffer) is = refl
 named_at false number (CloneBuffer buffer) is = refl
+named_at true number (Raw writer chunk) is = refl
+named_at false number (Raw writer chunk) is = refl
 
 calls_own : (number : ℕ) (lines : List NumberedLine) (line : NumberedLine) → named_writer line.what ≡ number
     → calls_asked number (lines ++ line ∷ []) ≡ calls_asked number lines ++ named_calls line.what

@@ -16,7 +16,7 @@ use Rattle.field_tree.specs.Nodes.{IsField}
 use Rattle.scenario_text.specs.declared.open_packet.OpenPacket.{OpenPacket}
 use Rattle.scenario_text.specs.Effects.{grown}
 use Rattle.scenario_text.specs.Accepted.{AreAccepted}
-use Rattle.scenario_text.proofs.AcceptedFields.{MayFollow, accepted_both, accepts_fields, begun_len, len_is, longer}
+use Rattle.scenario_text.proofs.AcceptedFields.{MayFollow, AreWords, accepted_both, words_both, accepts_fields, begun_len, len_is, longer}
 
 -- a packet is begun, of which the grammar's state has the depth and the length; no packet was lost
 pub record IsBegun (account : Account) (packet : OpenPacket) : Type 0 where
@@ -42,20 +42,22 @@ abbrev pub Stands : Account → Option OpenPacket → Type 0
 Stands account None = IsResting account
 Stands account (Some packet) = IsBegun account packet
 
--- the calls are accepted, and lead where the packet stands so
+-- the calls are accepted, their numbers are of 64 bits, and they lead where the packet stands so
 pub record LeadTo (account : Account) (calls : List Call) (packet : Option OpenPacket) : Type 0 where
   pub accepted : AreAccepted account calls
+  pub words : AreWords calls
   pub stands : Stands (fold noted account calls) packet
 
 pub lead_on : (account : Account) (calls more : List Call) (between packet : Option OpenPacket) → LeadTo account calls between
     → LeadTo (fold noted account calls) more packet → LeadTo account (calls ++ more) packet
 lead_on account calls more between packet first then = record {
   accepted = accepted_both account calls more first.accepted then.accepted;
+  words = words_both calls more first.words then.words;
   stands = subst (λ (a : Account). Stands a packet) (sym (fold-append noted account calls more)) then.stands;
 }
 
 pub leads_nowhere : (account : Account) (packet : Option OpenPacket) → Stands account packet → LeadTo account [] packet
-leads_nowhere account packet stands = record { accepted = tt; stands = stands }
+leads_nowhere account packet stands = record { accepted = tt; words = tt; stands = stands }
 
 -- ---- one call after another
 
@@ -63,6 +65,7 @@ pub begins : (account : Account) (line : ℕ) → IsResting account
     → LeadTo account (Begun true ∷ []) (Some (record { line = line; depth = 0; len = 0 }))
 begins account line rests = record {
   accepted = ((refl, rests.ended), tt);
+  words = tt;
   stands = record {
     newest = begun_packet true account;
     older = account.packets;
@@ -80,14 +83,15 @@ begins account line rests = record {
 }
 
 pub writes : (account : Account) (packet : OpenPacket) (fields : Fields) → IsBegun account packet → MayFollow packet.depth packet.len fields
-    → LeadTo account (calls_of fields) (Some (grown packet 0 (encoding_len fields)))
-writes account packet fields b may =
+    → AreWords (calls_of fields) → LeadTo account (calls_of fields) (Some (grown packet 0 (encoding_len fields)))
+writes account packet fields b may words =
     let w : Writes b.newest b.older b.flushed (calls_of fields) b.level (b.level ++ encoding_of fields) b.outer b.closed =
     writes_fields b.newest b.older b.flushed fields b.level b.outer b.closed in
     let here : MayFollow (length b.outer) (length (flat open_length (b.level ∷ b.outer))) fields = rw (b.depth_is, b.len_is) may in
     let accepted = accepts_fields b.newest b.older b.flushed b.going b.plain fields b.level b.outer b.closed here in
     record {
       accepted = subst (λ (a : Account). AreAccepted a (calls_of fields)) (sym b.account_is) accepted;
+      words = words;
       stands = record {
         newest = b.newest;
         older = b.older;
@@ -130,6 +134,7 @@ nests account packet field b may =
     ) in
     record {
       accepted = subst (λ (a : Account). AreAccepted a (Nested field ∷ [])) (sym b.account_is) accepted;
+      words = tt;
       stands = record {
         newest = b.newest;
         older = b.older;
@@ -168,6 +173,7 @@ unnests_at account packet b (message ∷ others) is some =
     ((rw b.going refl, omega arith), tt) in
     record {
       accepted = subst (λ (a : Account). AreAccepted a (Ended ∷ [])) (sym same) accepted;
+      words = tt;
       stands = record {
         newest = b.newest;
         older = b.older;
@@ -197,6 +203,7 @@ finishes_at account packet b [] is none =
     let rests : IsResting (noted (at_text b.newest b.older b.flushed (b.level ∷ []) b.closed) Finished) = record { ended = refl; whole = b.whole } in
     record {
       accepted = subst (λ (a : Account). AreAccepted a (Finished ∷ [])) (sym same) accepted;
+      words = tt;
       stands = subst (λ (a : Account). IsResting (noted a Finished)) (sym same) rests;
     }
 finishes_at account packet b (message ∷ others) is none = absurd (omega (arith, none, b.depth_is, ap length is))
@@ -205,15 +212,15 @@ pub finishes : (account : Account) (packet : OpenPacket) → IsBegun account pac
 finishes account packet b none = finishes_at account packet b b.outer refl none
 
 pub flushes : (account : Account) → IsResting account → LeadTo account (Flushed ∷ []) None
-flushes account rests = record { accepted = (rests.ended, tt); stands = record { ended = rests.ended; whole = rests.whole } }
+flushes account rests = record { accepted = (rests.ended, tt); words = tt; stands = record { ended = rests.ended; whole = rests.whole } }
 
 -- a packet that one line gives whole
-pub writes_whole : (account : Account) (fields : Fields) → IsResting account → MayFollow 0 0 fields
+pub writes_whole : (account : Account) (fields : Fields) → IsResting account → MayFollow 0 0 fields → AreWords (calls_of fields)
     → LeadTo account (Begun true ∷ calls_of fields ++ Finished ∷ []) None
-writes_whole account fields rests may =
+writes_whole account fields rests may words =
     let begun = begins account 0 rests in
     let packet : OpenPacket = record { line = 0; depth = 0; len = 0 } in
-    let written = writes (noted account (Begun true)) packet fields begun.stands may in
+    let written = writes (noted account (Begun true)) packet fields begun.stands may words in
     let ended = finishes (fold noted (noted account (Begun true)) (calls_of fields)) (grown packet 0 (encoding_len fields)) written.stands refl in
     let more = lead_on (noted account (Begun true)) (calls_of fields) (Finished ∷ []) (Some (grown packet 0 (encoding_len fields))) None written ended in
-    record { accepted = (begun.accepted.0, more.accepted); stands = more.stands }
+    record { accepted = (begun.accepted.0, more.accepted); words = more.words; stands = more.stands }

@@ -1,11 +1,11 @@
 -- A writer accepts the calls of a tree of fields wherever nothing speaks against the fields.
-use Rattle.std.proofs.Common.{◌≡◌, ◌∙◌, ℕ, ◌+◌, ◌*◌, ◌≤◌, length, Bool, true, false, cond, List, [], ◌∷◌, ◌++◌, Option, Some, None, map, refl, sym, subst, length-append, arith}
+use Rattle.std.proofs.Common.{◌≡◌, ◌∙◌, ℕ, ◌+◌, ◌*◌, ◌^◌, ◌<◌, ◌≤◌, length, Bool, true, false, cond, List, [], ◌∷◌, ◌++◌, Option, Some, None, map, refl, sym, subst, length-append, arith}
 use Rattle.std.specs.Prelude.{fold}
 use Rattle.std.proofs.lemmas.List.{map-append}
 use Rattle.trace_base.specs.declared.limits.TheConstants.{MAX_NESTING, MAX_PACKET_LEN}
 use Rattle.trace_base.specs.Reserved.{is_reserved}
 use Rattle.wire_varint.specs.Varint.{redundant}
-use Rattle.trace_model.specs.Calls.{Call, Ended}
+use Rattle.trace_model.specs.Calls.{Call, Begun, Number, Bytes, Nested, Ended, GivenUp, Finished, Flushed}
 use Rattle.trace_model.specs.Encoding.{Fields, NoFields, NumberField, BytesField, NestedField, number_field, bytes_head, bytes_field, nested_tag, encoding_of, encoding_len, depth_of, calls_of}
 use Rattle.trace_model.specs.Packets.{Packet, NestedLength, Account, open_length, flat, noted, front_of, newest_length}
 use Rattle.trace_model.proofs.CallLemmas.{at_text, Writes, writes_fields}
@@ -13,6 +13,7 @@ use Rattle.trace_model.proofs.EncodingLemmas.{encoding_as_long, length-bytes_fie
 use Rattle.wire_varint.proofs.Lengths.{length-redundant}
 use Rattle.field_tree.specs.declared.node.FieldNode.TheVariants as node
 use Rattle.field_tree.specs.Nodes.{nodes_of, IsField}
+use Rattle.field_tree.specs.Grammar.{IsSpelling}
 use Rattle.field_tree.specs.Refusals.{reserved_or, first_reserved}
 use Rattle.field_tree.specs.Trees.{HasFieldNumbers}
 use Rattle.scenario_text.specs.Accepted.{node_call, AcceptsField, AreAccepted}
@@ -32,6 +33,31 @@ accepted_front account (call ∷ calls) more all = (all.0, accepted_front (noted
 pub accepted_back : (account : Account) (calls more : List Call) → AreAccepted account (calls ++ more) → AreAccepted (fold noted account calls) more
 accepted_back account [] more all = all
 accepted_back account (call ∷ calls) more all = accepted_back (noted account call) calls more all.1
+
+-- the numbers that are written are of 64 bits
+abbrev pub AreWords : List Call → Type 0
+AreWords [] = Unit {0}
+AreWords (Number field value ∷ calls) = (value < 2 ^ 64) × AreWords calls
+AreWords (call ∷ calls) = AreWords calls
+
+pub words_both : (calls more : List Call) → AreWords calls → AreWords more → AreWords (calls ++ more)
+words_both [] more first then = then
+words_both (Number field value ∷ calls) more first then = (first.0, words_both calls more first.1 then)
+words_both (Begun kept ∷ calls) more first then = words_both calls more first then
+words_both (Bytes field text times ∷ calls) more first then = words_both calls more first then
+words_both (Nested field ∷ calls) more first then = words_both calls more first then
+words_both (Ended ∷ calls) more first then = words_both calls more first then
+words_both (GivenUp ∷ calls) more first then = words_both calls more first then
+words_both (Finished ∷ calls) more first then = words_both calls more first then
+words_both (Flushed ∷ calls) more first then = words_both calls more first then
+
+-- so are those of a tree that the grammar spells
+pub spelled_words : (fields : Fields) (after : Bool) (text : List ℕ) → IsSpelling after fields text → AreWords (calls_of fields)
+spelled_words NoFields after text is = tt
+spelled_words (NumberField field number others) after text (numbered, small, rest, cut, more) = (small, spelled_words others true rest more)
+spelled_words (BytesField field bytes times others) after text (numbered, spelt, spelling, rest, cut, more) = spelled_words others true rest more
+spelled_words (NestedField field inner others) after text (numbered, between, within, rest, cut, more) =
+    words_both (calls_of inner) (Ended ∷ calls_of others) (spelled_words inner false between within) (spelled_words others true rest more)
 
 -- the nodes of a tree are called as the tree is
 pub called_as : (fields : Fields) → map node_call (nodes_of fields) ≡ calls_of fields

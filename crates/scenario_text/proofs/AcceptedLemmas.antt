@@ -1,4 +1,4 @@
--- A writer accepts what every scenario asks of it.
+-- A writer accepts what every scenario asks of it, and spells trees by it.
 use Rattle.std.proofs.Common.{◌≡◌, ◌≢◌, ◌∙◌, ℕ, zero, suc, ◌+◌, ◌-◌, ◌<◌, ◌≤◌, nat_eq, length, Bool, true, false, cond, List, [], ◌∷◌, ◌++◌, Option, Some, None, Result, is_none, nat_lt, slice_get, slice_set, refl, sym, subst, ap, arith}
 use Rattle.std.specs.Prelude.{fold}
 use Rattle.std.specs.List.{list_any}
@@ -11,13 +11,13 @@ use Rattle.std.proofs.Math.Dec.{eqb-suc-zero}
 use Rattle.std.proofs.lemmas.Option.{slice_get_within}
 use Rattle.trace_base.specs.declared.policy.WriterSpec.{WriterSpec}
 use Rattle.trace_model.specs.Calls.{Call}
-use Rattle.trace_model.specs.Packets.{nothing_yet, noted}
+use Rattle.trace_model.specs.Packets.{nothing_yet, noted, packets_of, is_writing}
 use Rattle.field_tree.specs.declared.fault.FieldFault.{FieldFault}
 use Rattle.field_tree.specs.Nodes.{Shown}
 use Rattle.trace_base.specs.declared.numeral.Numeral.{Numeral}
 use Rattle.trace_base.specs.declared.numeral.Numeral.TheVariants.{Fits, TooLarge}
 use Rattle.scenario_text.specs.declared.form.Form.{Form}
-use Rattle.scenario_text.specs.declared.form.Form.TheVariants.{Buffer, Producer, Writer, OfWriter, OfProducer, Read, Request, CloneBuffer}
+use Rattle.scenario_text.specs.declared.form.Form.TheVariants.{Buffer, Producer, Writer, OfWriter, OfProducer, Read, Request, CloneBuffer, Raw}
 use Rattle.scenario_text.specs.declared.form.WriterStep.{WriterStep}
 use Rattle.scenario_text.specs.declared.form.WriterStep.TheVariants.{Packet, Begin, Add, Nest, Unnest, End, Flush}
 use Rattle.scenario_text.specs.declared.form.ProducerStep.{ProducerStep}
@@ -34,10 +34,12 @@ use Rattle.scenario_text.specs.Effects.{policy_of, moved, nodes_given, written, 
 use Rattle.scenario_text.specs.Grammar.{earlier, line_left, first_left}
 use Rattle.scenario_text.specs.Scenario.{Parts, IsScenario}
 use Rattle.scenario_text.specs.Accepted.{line_calls, calls_asked, closes, is_closed_by, AsksWell}
+use Rattle.scenario_text.specs.Spelled.{ScenariosSpellTrees}
 use Rattle.scenario_text.proofs.FrontLemmas.{IsPassed, passed}
 use Rattle.scenario_text.proofs.StateLemmas.{first_none, scenario_holds}
 use Rattle.scenario_text.proofs.AcceptedCalls.{Stands, LeadTo, lead_on, leads_nowhere}
 use Rattle.scenario_text.proofs.AcceptedLines.{step_calls, line_given, line_leads}
+use Rattle.scenario_text.proofs.SpelledLemmas.{accepted_spells, accepted_passes}
 
 -- What has been asked of the writer whose packet stands so: all of it is accepted. Nothing has been asked of one that isn't there.
 abbrev Told : Option (Option OpenPacket) → List Call → Type 0
@@ -198,7 +200,7 @@ written_at state number place line step told inside passed nodes leads =
     })
 
 writer_keeps : (state : State) (number : ℕ) (line : List ℕ) (writer : Numeral) (step : WriterStep) → refusal_of state line (OfWriter writer step) ≡ None
-    → IsTold state → IsTold (moved state number (OfWriter writer step) (nodes_given (given state line (OfWriter writer step))))
+    → IsTold state → IsTold (moved state number line (OfWriter writer step) (nodes_given (given state line (OfWriter writer step))))
 unfolding refusal_of moved given
 writer_keeps state number line writer step none told =
     let reasons = first_none (front_reasons state (OfWriter writer step)) (back_reasons state line (OfWriter writer step)) none in
@@ -292,7 +294,7 @@ producer_keeps state number producer Close told =
     }
 
 line_keeps : (state : State) (number : ℕ) (line : List ℕ) (form : Form) → refusal_of state line form ≡ None → IsTold state
-    → IsTold (moved state number form (nodes_given (given state line form)))
+    → IsTold (moved state number line form (nodes_given (given state line form)))
 unfolding moved with_clone line_calls is_closed item
 line_keeps state number line (Buffer kb policy) none told = record { many = told.many; each = told.each; shut = told.shut }
 line_keeps state number line (Producer pages page_size chunks) none told = record {
@@ -311,6 +313,7 @@ line_keeps state number line (OfWriter writer step) none told = writer_keeps sta
 line_keeps state number line (OfProducer producer step) none told = producer_keeps state number producer step told
 line_keeps state number line (Read buffer limit) none told = told_line state number _ (λ writer. refl) told
 line_keeps state number line Request none told = told_line state number _ (λ writer. refl) told
+line_keeps state number line (Raw raw) none told = told_line state number _ (λ writer. refl) told
 line_keeps state number line (CloneBuffer buffer) none told =
     let with = told_line state number _ (λ writer. refl) told in
     record { many = with.many; each = with.each; shut = with.shut }
@@ -376,8 +379,14 @@ left_none false state writer (Some packet) closed_is not none = absurd (left_som
     left_some true is none = cc
     left_some false is none = cc
 
+-- what the lines ask of a writer, and that none is left of it, unless a line has closed its producer
+record IsAsked (lines : List NumberedLine) (number : ℕ) (writer : WriterSpec) : Type 0 where
+  packet : Option OpenPacket
+  leads : LeadTo nothing_yet (calls_asked number lines) packet
+  ended : is_closed_by lines writer.producer ≡ false → is_writing (packets_of (calls_asked number lines)) ≡ false
+
 ends : (state : State) → IsTold state → first_left state None 1 state.writers ≡ None → (place : ℕ) (writer : WriterSpec)
-    → slice_get state.writers place ≡ Some writer → AsksWell state.lines (place + 1) writer
+    → slice_get state.writers place ≡ Some writer → IsAsked state.lines (place + 1) writer
 ends state told none place writer get =
     let inside : place < length state.packets = omega (arith, slice_get_within state.writers place writer get, told.many) in
     let all : LeadTo nothing_yet (calls_asked (suc place) state.lines) (packet_of state (Fits (suc place))) =
@@ -385,9 +394,10 @@ ends state told none place writer get =
     (told_there state.packets place (calls_asked (suc place) state.lines) inside (told.each place)) in
     let left : line_left state writer (packet_of state (Fits (suc place))) ≡ None =
     subst (λ (n : ℕ). line_left state writer (packet_of state (Fits n)) ≡ None) (omega arith) ((none_left_at state state.writers None 1 none).1 place writer get) in
-    subst (λ (n : ℕ). AsksWell state.lines n writer) (omega arith)
+    subst (λ (n : ℕ). IsAsked state.lines n writer) (omega arith)
     (record {
-      accepted = all.accepted;
+      packet = packet_of state (Fits (suc place));
+      leads = all;
       ended = λ unshut.
           let shut : is_closed state (Fits writer.producer) ≡ false =
           false_from_ne_true (is_closed state (Fits writer.producer)) (λ closed. no_both (told.shut writer.producer closed) unshut) in
@@ -399,9 +409,25 @@ ends state told none place writer get =
     no_both : {b : Bool} → b ≡ true → b ≡ false → ⊥
     no_both is none = cc
 
+scenario_asks : (scenario : Scenario) → IsScenario scenario → (place : ℕ) (writer : WriterSpec)
+    → slice_get scenario.writers.items place ≡ Some writer → IsAsked scenario.lines (place + 1) writer
+scenario_asks scenario is place writer get =
+    let end =
+    scenario_holds IsTold (λ state number line form formed none told. line_keeps state number line form none told) none_told scenario is in
+    subst (λ (parts : Parts). slice_get parts.writers place ≡ Some writer → IsAsked parts.lines (place + 1) writer) end.says
+    (λ there. ends end.state end.holds end.none_left place writer there) get
+
 pub scenario_is_accepted : (scenario : Scenario) → IsScenario scenario → (place : ℕ) (writer : WriterSpec)
     → slice_get scenario.writers.items place ≡ Some writer → AsksWell scenario.lines (place + 1) writer
 scenario_is_accepted scenario is place writer get =
-    let end = scenario_holds IsTold line_keeps none_told scenario is in
-    subst (λ (parts : Parts). slice_get parts.writers place ≡ Some writer → AsksWell parts.lines (place + 1) writer) end.says
-    (λ there. ends end.state end.holds end.none_left place writer there) get
+    let asked = scenario_asks scenario is place writer get in
+    record {
+      accepted = asked.leads.accepted;
+      ended = asked.ended;
+      passes = accepted_passes (calls_asked (place + 1) scenario.lines) asked.leads.accepted asked.leads.words;
+    }
+
+pub scenario_spells_trees : ScenariosSpellTrees
+scenario_spells_trees scenario is place writer get =
+    let asked = scenario_asks scenario is place writer get in
+    accepted_spells (calls_asked (place + 1) scenario.lines) asked.leads.accepted asked.leads.words

@@ -30,7 +30,7 @@ use Rattle.scenario_text.specs.Effects.{packet_after}
 use Rattle.scenario_text.specs.Accepted.{node_call}
 use Rattle.scenario_text.proofs.FrontLemmas.{IsPassed, within_least, within_most}
 use Rattle.scenario_text.proofs.TreeLemmas.{taken_free, spelled_numbers, within}
-use Rattle.scenario_text.proofs.AcceptedFields.{MayFollow, called_as}
+use Rattle.scenario_text.proofs.AcceptedFields.{MayFollow, AreWords, called_as, spelled_words}
 use Rattle.scenario_text.proofs.AcceptedCalls.{Stands, LeadTo, begins, writes, writes_whole, nests, unnests, finishes, flushes}
 
 -- ---- what a line gives its packet
@@ -40,6 +40,7 @@ record AreFields (depth : ℕ) (nodes : List Shown) : Type 0 where
   fields : Fields
   nodes_are : nodes ≡ nodes_of fields
   may : (len : ℕ) → len + nodes_len nodes ≤ MAX_PACKET_LEN → MayFollow depth len fields
+  words : AreWords (calls_of fields)
   len_is : nodes_len nodes ≡ encoding_len fields
 
 none_reserved : (depth : ℕ) (found : Option ℕ) → reserved_fault depth found ≡ None → depth ≡ 0 → found ≡ None
@@ -63,6 +64,7 @@ meant_fields depth text (Ok found) nodes means is =
         shallow = free.shallow;
         short = omega (arith, short, long);
       };
+      words = spelled_words means.fields false text means.text_of.spelled;
       len_is = long;
     }
 meant_fields depth text (Err fault) nodes means is = cc
@@ -167,17 +169,17 @@ step_leads : (account : Account) (packet : Option OpenPacket) (number : ℕ) (li
 unfolding wants_none given_by step_len packet_after nesting_of len_of
 step_leads account None number line (Packet true) nodes stands place nested level is short =
     let f = given_fields 0 (fields_part line) nodes is in
-    rw (same_call nodes f.fields f.nodes_are) (writes_whole account f.fields stands (f.may 0 short))
+    rw (same_call nodes f.fields f.nodes_are) (writes_whole account f.fields stands (f.may 0 short) f.words)
 step_leads account None number line (Packet false) nodes stands place nested level is short =
     let none : nodes ≡ [] = cc in
     let may : MayFollow 0 0 NoFields = record { numbers = tt; free = λ top. refl; shallow = omega arith; short = omega arith } in
-    rw none (writes_whole account NoFields stands may)
+    rw none (writes_whole account NoFields stands may tt)
 step_leads account (Some packet) number line (Packet has_fields) nodes stands place nested level is short = absurd cc
 step_leads account None number line Begin nodes stands place nested level is short = begins account number stands
 step_leads account (Some packet) number line Begin nodes stands place nested level is short = absurd cc
 step_leads account (Some packet) number line Add nodes stands place nested level is short =
     let f = given_fields packet.depth (fields_part line) nodes is in
-    rw (same_call nodes f.fields f.nodes_are, f.len_is) (writes account packet f.fields stands (f.may packet.len short))
+    rw (same_call nodes f.fields f.nodes_are, f.len_is) (writes account packet f.fields stands (f.may packet.len short) f.words)
 step_leads account None number line Add nodes stands place nested level is short = absurd cc
 step_leads account (Some packet) number line (Nest field) nodes stands place nested level is short =
     let n = given_nested packet.depth field nodes is in

@@ -170,6 +170,7 @@ line_weighs number (kinds.Close producer) = omega arith
 line_weighs number (kinds.Read buffer limit) = omega arith
 line_weighs number kinds.Request = omega arith
 line_weighs number (kinds.CloneBuffer buffer) = omega arith
+line_weighs number (kinds.Raw writer chunk) = omega arith
 
 lines_weigh : (number : ℕ) (lines : List NumberedLine) → sum_by weight (calls_asked number lines) ≤ length lines + lines_len lines
 lines_weigh number [] = omega arith

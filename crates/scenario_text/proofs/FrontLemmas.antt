@@ -9,19 +9,23 @@ use Rattle.trace_base.specs.declared.numeral.Numeral.{Numeral}
 use Rattle.trace_base.specs.declared.numeral.Numeral.TheVariants.{Fits, TooLarge}
 use Rattle.scenario_text.specs.declared.form.NamedPolicy.{NamedPolicy}
 use Rattle.scenario_text.specs.declared.form.Form.{Form}
-use Rattle.scenario_text.specs.declared.form.Form.TheVariants.{Buffer, Producer, Writer, OfWriter, OfProducer, Read, CloneBuffer}
+use Rattle.scenario_text.specs.declared.form.Form.TheVariants.{Buffer, Producer, Writer, OfWriter, OfProducer, Read, CloneBuffer, Raw}
 use Rattle.scenario_text.specs.declared.form.TheConstants.{MAX_CLONES, MAX_TRIES, MAX_CHUNK_ID}
 use Rattle.scenario_text.specs.declared.form.NamedPolicy.TheVariants.{Drops, Stalls, StallsThenDrops}
 use Rattle.scenario_text.specs.declared.form.WriterStep.{WriterStep}
 use Rattle.scenario_text.specs.declared.form.ProducerStep.{ProducerStep}
 use Rattle.scenario_text.specs.declared.reason.Reason.{Reason}
 use Rattle.scenario_text.specs.Items.{item}
+use Rattle.scenario_text.specs.Forms.{form_of}
+use Rattle.scenario_text.specs.RawChunks.{IsRawLine}
+use Rattle.scenario_text.specs.RawRanges.{are_raw_numbers}
+use Rattle.scenario_text.specs.declared.form.NamedRaw.{NamedRaw}
 use Rattle.scenario_text.specs.Ranges.{fits, value, is_within, is_page_size, is_chunk_count}
 use Rattle.scenario_text.specs.State.{State}
 use Rattle.scenario_text.specs.Limits.{HasTries}
 use Rattle.scenario_text.specs.Effects.{policy_of, TriesFit, IdFits}
 use Rattle.scenario_text.specs.Sound.{is_cut}
-use Rattle.scenario_text.specs.Reasons.{first, when, front_reasons, are_tries, is_out_of_range, is_producer_in_range, is_late, is_too_many, lacks_producer, lacks_buffer, lacks_writer, has_larger_chunks, has_closed_producer, meets_packet, lacks_packet, lacks_nesting, leaves_nesting, is_id}
+use Rattle.scenario_text.specs.Reasons.{first, when, front_reasons, are_tries, is_out_of_range, is_producer_in_range, is_late, is_too_many, lacks_producer, lacks_buffer, lacks_writer, has_larger_chunks, has_closed_producer, has_long_payload, meets_packet, lacks_packet, lacks_nesting, leaves_nesting, is_id}
 use Rattle.scenario_text.proofs.SoundLemmas.{both}
 
 none_when : (test : Bool) (reason : Reason) (more : List (Option Reason)) → first (when test reason ∷ more) ≡ None
@@ -38,6 +42,7 @@ pub record IsPassed (state : State) (form : Form) : Type 0 where
   pub writer : lacks_writer state form ≡ false
   pub larger : has_larger_chunks state form ≡ false
   pub opened : has_closed_producer state form ≡ false
+  pub short : has_long_payload state form ≡ false
   pub none_begun : meets_packet state form ≡ false
   pub begun : lacks_packet state form ≡ false
   pub nested : lacks_nesting state form ≡ false
@@ -54,10 +59,11 @@ passed state form none =
     let six = none_when (lacks_writer state form) _ _ five.1 in
     let seven = none_when (has_larger_chunks state form) _ _ six.1 in
     let eight = none_when (has_closed_producer state form) _ _ seven.1 in
-    let nine = none_when (meets_packet state form) _ _ eight.1 in
-    let ten = none_when (lacks_packet state form) _ _ nine.1 in
-    let eleven = none_when (lacks_nesting state form) _ _ ten.1 in
-    let twelve = none_when (leaves_nesting state form) _ _ eleven.1 in
+    let nine = none_when (has_long_payload state form) _ _ eight.1 in
+    let ten = none_when (meets_packet state form) _ _ nine.1 in
+    let eleven = none_when (lacks_packet state form) _ _ ten.1 in
+    let twelve = none_when (lacks_nesting state form) _ _ eleven.1 in
+    let thirteen = none_when (leaves_nesting state form) _ _ twelve.1 in
     record {
       in_range = one.0;
       room = three.0;
@@ -66,10 +72,11 @@ passed state form none =
       writer = six.0;
       larger = seven.0;
       opened = eight.0;
-      none_begun = nine.0;
-      begun = ten.0;
-      nested = eleven.0;
-      level = twelve.0;
+      short = nine.0;
+      none_begun = ten.0;
+      begun = eleven.0;
+      nested = twelve.0;
+      level = thirteen.0;
     }
 
 pub within_least : (low high : ℕ) (number : Numeral) → is_within low high number ≡ true → low ≤ value number
@@ -262,3 +269,22 @@ cloned_named state buffer none = item_inside state.buffers buffer (passed state 
 pub room_for_clone : (state : State) (buffer : Numeral) → first (front_reasons state (CloneBuffer buffer)) ≡ None → state.clones < MAX_CLONES
 unfolding is_too_many
 room_for_clone state buffer none = grind (arith, common_steps, (passed state (CloneBuffer buffer) none).room)
+
+pub raw_named : (state : State) (raw : NamedRaw) → first (front_reasons state (Raw raw)) ≡ None → value raw.writer ≤ length state.writers
+unfolding lacks_writer
+raw_named state raw none = item_inside state.writers raw.writer (passed state (Raw raw) none).writer
+
+pub raw_buffer : (state : State) (raw : NamedRaw) → first (front_reasons state (Raw raw)) ≡ None → value raw.buffer ≤ length state.buffers
+unfolding lacks_buffer
+raw_buffer state raw none = item_inside state.buffers raw.buffer (passed state (Raw raw) none).buffer
+
+-- a line that is taken asks for a chunk
+pub raw_line : (state : State) (raw : NamedRaw) (line : List ℕ) → form_of line ≡ Some (Raw raw)
+    → first (front_reasons state (Raw raw)) ≡ None → length state.buffers ≤ MAX_BUFFERS → IsRawLine line
+unfolding is_out_of_range
+raw_line state raw line formed none few = record {
+  raw = raw;
+  form = formed;
+  in_range = not-false (are_raw_numbers raw) (passed state (Raw raw) none).in_range;
+  buffer = omega (arith, raw_buffer state raw none, few);
+}

@@ -1,9 +1,12 @@
 pub mod PieceLemmas
 pub mod FormLemmas
+pub mod HexLemmas
+pub mod RawLemmas
 pub mod SoundLemmas
 pub mod FieldLemmas
 pub mod ItemLemmas
 pub mod FrontLemmas
+pub mod RawNumbers
 pub mod WriteLemmas
 pub mod PlayLemmas
 pub mod LineLemmas
@@ -16,6 +19,7 @@ pub mod AcceptedCalls
 pub mod AcceptedLines
 pub mod AcceptedLemmas
 pub mod SpelledLemmas
+pub mod ChunkReach
 pub mod ReachLemmas
 pub mod PossibleLemmas
 pub mod ShortLemmas

@@ -13,7 +13,7 @@ use Rattle.trace_base.specs.declared.numeral.Numeral.{Numeral}
 use Rattle.trace_base.specs.declared.numeral.Numeral.TheVariants.{Fits, TooLarge}
 use Rattle.scenario_text.specs.declared.form.NamedPolicy.{NamedPolicy}
 use Rattle.scenario_text.specs.declared.form.Form.{Form}
-use Rattle.scenario_text.specs.declared.form.Form.TheVariants.{Buffer, Producer, Writer, OfWriter, OfProducer, Read, Request, CloneBuffer}
+use Rattle.scenario_text.specs.declared.form.Form.TheVariants.{Buffer, Producer, Writer, OfWriter, OfProducer, Read, Request, CloneBuffer, Raw}
 use Rattle.scenario_text.specs.declared.form.ProducerStep.{ProducerStep}
 use Rattle.scenario_text.specs.declared.form.ProducerStep.TheVariants.{Collect, Scrape, Close}
 use Rattle.scenario_text.specs.declared.scenario.BufferLine.{BufferLine}
@@ -32,7 +32,7 @@ use Rattle.scenario_text.proofs.SoundLemmas.{cut_pages, cut_chunks}
 use Rattle.scenario_text.proofs.StateLemmas.{first_none, scenario_holds}
 use Rattle.scenario_text.proofs.FrontLemmas.{passed, within_least, within_most, of_producer_line, producer_cut, room_for_buffer, room_for_producer, room_for_writer, tries_of_line}
 
-abbrev KeepsLimits : State → Type 0
+abbrev pub KeepsLimits : State → Type 0
 KeepsLimits state = IsSetUp state.buffers state.producers state.writers
 
 -- ---- lists that grow
@@ -170,30 +170,33 @@ served_keeps state producer Collect keeps = keeps
 served_keeps state producer Scrape keeps = keeps
 served_keeps state producer Close keeps = keeps
 
-moved_keeps : (state : State) (number : ℕ) (form : Form) (nodes : List Shown) → first (front_reasons state form) ≡ None → KeepsLimits state
-    → KeepsLimits (moved state number form nodes)
+moved_keeps : (state : State) (number : ℕ) (line : List ℕ) (form : Form) (nodes : List Shown) → first (front_reasons state form) ≡ None
+    → KeepsLimits state
+    → KeepsLimits (moved state number line form nodes)
 unfolding moved written with_line with_packet with_bytes with_clone
-moved_keeps state number (Buffer kb policy) nodes none keeps =
+moved_keeps state number line (Buffer kb policy) nodes none keeps =
     more_buffer state.buffers state.producers state.writers _ keeps (room_for_buffer state kb policy none) (buffer_known state kb policy none)
-moved_keeps state number (Producer pages page_size chunks) nodes none keeps =
+moved_keeps state number line (Producer pages page_size chunks) nodes none keeps =
     more_producer state.buffers state.producers state.writers _ keeps (room_for_producer state pages page_size chunks none)
     (producer_known state pages page_size chunks none)
-moved_keeps state number (Writer producer buffer policy from) nodes none keeps =
+moved_keeps state number line (Writer producer buffer policy from) nodes none keeps =
     more_writer state.buffers state.producers state.writers _ keeps (room_for_writer state producer buffer policy from none)
     (writer_named state producer buffer policy from none)
-moved_keeps state number (OfWriter writer step) nodes none keeps = keeps
-moved_keeps state number (OfProducer producer step) nodes none keeps = served_keeps _ producer step keeps
-moved_keeps state number (Read buffer limit) nodes none keeps = keeps
-moved_keeps state number Request nodes none keeps = keeps
-moved_keeps state number (CloneBuffer buffer) nodes none keeps = keeps
+moved_keeps state number line (OfWriter writer step) nodes none keeps = keeps
+moved_keeps state number line (OfProducer producer step) nodes none keeps = served_keeps _ producer step keeps
+moved_keeps state number line (Read buffer limit) nodes none keeps = keeps
+moved_keeps state number line Request nodes none keeps = keeps
+moved_keeps state number line (CloneBuffer buffer) nodes none keeps = keeps
+moved_keeps state number line (Raw raw) nodes none keeps = keeps
 
-line_keeps : (state : State) (number : ℕ) (line : List ℕ) (form : Form) → refusal_of state line form ≡ None → KeepsLimits state
-    → KeepsLimits (moved state number form (nodes_given (given state line form)))
+pub limits_kept : (state : State) (number : ℕ) (line : List ℕ) (form : Form) → refusal_of state line form ≡ None → KeepsLimits state
+    → KeepsLimits (moved state number line form (nodes_given (given state line form)))
 unfolding refusal_of
-line_keeps state number line form none keeps =
-    moved_keeps state number form (nodes_given (given state line form)) (first_none (front_reasons state form) (back_reasons state line form) none).0 keeps
+limits_kept state number line form none keeps =
+    let front = (first_none (front_reasons state form) (back_reasons state line form) none).0 in
+    moved_keeps state number line form (nodes_given (given state line form)) front keeps
 
-nothing_kept : KeepsLimits beginning
+pub nothing_kept : KeepsLimits beginning
 nothing_kept = record {
   few_buffers = omega arith;
   few_producers = omega arith;
@@ -206,5 +209,7 @@ nothing_kept = record {
 pub scenario_is_set_up : (scenario : Scenario) → IsScenario scenario
     → IsSetUp scenario.buffers.items scenario.producers.items scenario.writers.items
 scenario_is_set_up scenario is =
-    let end = scenario_holds KeepsLimits line_keeps nothing_kept scenario is in
+    let end =
+    scenario_holds KeepsLimits (λ state number line form formed none keeps. limits_kept state number line form none keeps) nothing_kept
+    scenario is in
     subst (λ (parts : Parts). IsSetUp parts.buffers parts.producers parts.writers) end.says end.holds

@@ -8,7 +8,7 @@ use Rattle.std.proofs.lemmas.List.Elements.{All-nil, All-push, All-head, All-tai
 use Rattle.std.proofs.lemmas.Option.{slice_get_within, get_or_from_slice_get}
 use Rattle.field_tree.specs.Written.{shown_in}
 use Rattle.scenario_text.specs.declared.line_list.KeptKind.{KeptKind}
-use Rattle.scenario_text.specs.declared.line_list.KeptKind.TheVariants.{Packet, Begin, Add, Nest, Unnest, End, Flush, Collect, Scrape, Close, Read, Request, CloneBuffer}
+use Rattle.scenario_text.specs.declared.line_list.KeptKind.TheVariants.{Packet, Begin, Add, Nest, Unnest, End, Flush, Collect, Scrape, Close, Read, Request, CloneBuffer, Raw}
 use Rattle.scenario_text.specs.declared.line_list.KeptLine.{KeptLine}
 use Rattle.scenario_text.specs.declared.own_lines.Row.{Row}
 use Rattle.scenario_text.specs.declared.own_lines.Span.{Span}
@@ -57,6 +57,7 @@ apart (Close producer) bytes number is = (is, refl)
 apart (Read buffer high low) bytes number is = (is, refl)
 apart Request bytes number is = (is, refl)
 apart (CloneBuffer buffer) bytes number is = (is, refl)
+apart (Raw writer len) bytes number is = (is, refl)
 
 -- a row that no one changed, where the line isn't its writer's
 same_row : (what : KeptKind) (bytes number : ℕ) (before : List Row) (row : Row) → slice_get before number ≡ Some row → is_of number (kind_of what []) ≡ false
@@ -151,6 +152,7 @@ kind_next number (Close producer) code bytes rest is = refl
 kind_next number (Read buffer high low) code bytes rest is = refl
 kind_next number Request code bytes rest is = refl
 kind_next number (CloneBuffer buffer) code bytes rest is = refl
+kind_next number (Raw writer len) code bytes rest is = refl
 
 lines_next : (number : ℕ) (head : KeptLine) (behind : List KeptLine) (code : List ℕ) (bytes : ℕ) → is_other number head.what ≡ false
     → own_kinds number (lines_of (head ∷ behind) (drop bytes code))
@@ -182,6 +184,7 @@ spans_more number (Scrape producer) code bytes spans inside enough own all = sub
 spans_more number (Close producer) code bytes spans inside enough own all = subst (All (IsSpan code)) (sym (append-nil spans)) all
 spans_more number (Read buffer high low) code bytes spans inside enough own all = subst (All (IsSpan code)) (sym (append-nil spans)) all
 spans_more number Request code bytes spans inside enough own all = subst (All (IsSpan code)) (sym (append-nil spans)) all
+spans_more number (Raw writer len) code bytes spans inside enough own all = subst (All (IsSpan code)) (sym (append-nil spans)) all
 spans_more number (CloneBuffer buffer) code bytes spans inside enough own all = subst (All (IsSpan code)) (sym (append-nil spans)) all
 
 packets_more : (number : ℕ) (code : List ℕ) (spans more : List Span) (rest : List LineKind)

@@ -24,7 +24,7 @@ use Rattle.trace_base.specs.Numerals.{number_of, numeral_of, sized, sized_value,
 use Rattle.scenario_text.specs.PacketLines.{IsPacketLine}
 use Rattle.scenario_text.specs.Pieces.{pieces, pieces_behind, behind_space, fields_part}
 use Rattle.scenario_text.specs.Ranges.{fits, value}
-use Rattle.scenario_text.specs.Reasons.{before_fields, first, front_reasons, given_by, step_len, is_out_of_range, is_late, is_set_up, is_too_many, lacks_producer, lacks_buffer, lacks_writer, has_larger_chunks, has_closed_producer, is_closed_for, meets_packet, wants_none, lacks_packet, lacks_nesting, leaves_nesting}
+use Rattle.scenario_text.specs.Reasons.{before_fields, first, front_reasons, given_by, step_len, is_out_of_range, is_late, is_set_up, is_too_many, lacks_producer, lacks_buffer, lacks_writer, has_larger_chunks, has_closed_producer, is_closed_for, has_long_payload, meets_packet, wants_none, lacks_packet, lacks_nesting, leaves_nesting}
 use Rattle.scenario_text.specs.State.{State, is_closed, is_played, packet_of, nesting_of, len_of}
 use Rattle.scenario_text.proofs.FormLemmas.{several_words}
 use Rattle.scenario_text.proofs.WriteLemmas as write
@@ -144,7 +144,7 @@ and_no false = refl
 pub front_passed : (state : State) (number : ℕ) (writer : WriterSpec) → item state.writers (Fits number) ≡ Some writer
     → is_closed state (Fits writer.producer) ≡ false → packet_of state (Fits number) ≡ None
     → first (front_reasons state (OfWriter (Fits number) (Packet true))) ≡ None
-unfolding front_reasons is_out_of_range fits is_late is_set_up is_too_many lacks_producer lacks_buffer lacks_writer has_larger_chunks has_closed_producer is_closed_for meets_packet wants_none lacks_packet lacks_nesting leaves_nesting
+unfolding front_reasons is_out_of_range fits is_late is_set_up is_too_many lacks_producer lacks_buffer lacks_writer has_larger_chunks has_closed_producer is_closed_for has_long_payload meets_packet wants_none lacks_packet lacks_nesting leaves_nesting
 front_passed state number writer named opened none = rw (and_no (is_played state), named, opened, none) refl
 
 -- ---- the packet that is begun, and isn't before and behind

@@ -67,6 +67,10 @@ more_pieces separator bytes at found =
     rw (take_rest bytes (at + 1))
     (subst (λ (n : ℕ). slice_split p bytes ≡ take n bytes ∷ slice_split p (drop (n + 1) bytes)) there.0 first)
 
+pub pieces_behind_none : (separator : ℕ) → pieces_behind separator None ≡ []
+unfolding pieces_behind
+pieces_behind_none separator = refl
+
 pub pieces_behind_some : (separator : ℕ) (behind : List ℕ) → pieces_behind separator (Some behind) ≡ pieces separator behind
 unfolding pieces_behind
 pieces_behind_some separator behind = refl

@@ -5,14 +5,17 @@ use Rattle.scenario_text.specs.declared.scenario.LineKind.TheVariants as kinds
 use Rattle.scenario_text.specs.Ranges.{value}
 use Rattle.trace_base.specs.declared.numeral.Numeral.{Numeral}
 use Rattle.scenario_text.specs.declared.form.NamedPolicy.{NamedPolicy}
+use Rattle.scenario_text.specs.declared.form.NamedRaw.{NamedRaw}
 use Rattle.scenario_text.specs.declared.form.Form.{Form}
-use Rattle.scenario_text.specs.declared.form.Form.TheVariants.{Buffer, Producer, Writer, OfWriter, OfProducer, Read, Request, CloneBuffer}
+use Rattle.scenario_text.specs.declared.form.Form.TheVariants.{Buffer, Producer, Writer, OfWriter, OfProducer, Read, Request, CloneBuffer, Raw}
 use Rattle.scenario_text.specs.declared.form.ProducerStep.{ProducerStep}
 use Rattle.scenario_text.specs.declared.reason.Reason.{Reason}
 use Rattle.scenario_text.specs.State.{State}
 use Rattle.scenario_text.specs.Reasons.{first, front_reasons, back_reasons, refusal_of, given}
 use Rattle.scenario_text.specs.Effects.{moved, with_clone, with_line, producer_kind, served, limit_of}
 use Rattle.scenario_text.specs.Grammar.{after_form, unless}
+use Rattle.scenario_text.specs.RawForms.{payload_part}
+use Rattle.scenario_text.specs.RawChunks.{chunk_by}
 use Rattle.scenario_text.proofs.WriteLemmas.{back_left, first-append_some}
 
 -- a line that no writer is given
@@ -31,11 +34,12 @@ nothing_back state line (OfProducer producer step) other = (refl, refl)
 nothing_back state line (Read buffer limit) other = (refl, refl)
 nothing_back state line Request other = (refl, refl)
 nothing_back state line (CloneBuffer buffer) other = (refl, refl)
+nothing_back state line (Raw raw) other = (refl, refl)
 
 -- once no reason of the front holds it is taken
 taken_as_it_is : (state : State) (number : ℕ) (line : List ℕ) (form : Form) → IsNoWriters form
     → first (front_reasons state form) ≡ None
-    → after_form state number line (Some form) ≡ Ok (moved state number form [])
+    → after_form state number line (Some form) ≡ Ok (moved state number line form [])
 unfolding after_form unless
 taken_as_it_is state number line form other none =
     let nothing = nothing_back state line form other in
@@ -44,19 +48,20 @@ taken_as_it_is state number line form other none =
 
 pub taken_buffer : (state : State) (number : ℕ) (line : List ℕ) (kb : Numeral) (policy : FullPolicy)
     → first (front_reasons state (Buffer kb policy)) ≡ None
-    → after_form state number line (Some (Buffer kb policy)) ≡ Ok (moved state 0 (Buffer kb policy) [])
+    → after_form state number line (Some (Buffer kb policy)) ≡ Ok (moved state 0 [] (Buffer kb policy) [])
 unfolding moved
 taken_buffer state number line kb policy none = taken_as_it_is state number line (Buffer kb policy) tt none
 
 pub taken_producer : (state : State) (number : ℕ) (line : List ℕ) (pages page_size chunks : Numeral)
     → first (front_reasons state (Producer pages page_size chunks)) ≡ None
-    → after_form state number line (Some (Producer pages page_size chunks)) ≡ Ok (moved state 0 (Producer pages page_size chunks) [])
+    → after_form state number line (Some (Producer pages page_size chunks)) ≡ Ok (moved state 0 [] (Producer pages page_size chunks) [])
 unfolding moved
 taken_producer state number line pages page_size chunks none = taken_as_it_is state number line (Producer pages page_size chunks) tt none
 
 pub taken_writer : (state : State) (number : ℕ) (line : List ℕ) (producer buffer : Numeral) (policy : NamedPolicy) (from : Option Numeral)
     → first (front_reasons state (Writer producer buffer policy from)) ≡ None
-    → after_form state number line (Some (Writer producer buffer policy from)) ≡ Ok (moved state 0 (Writer producer buffer policy from) [])
+    → after_form state number line (Some (Writer producer buffer policy from))
+    ≡ Ok (moved state 0 [] (Writer producer buffer policy from) [])
 unfolding moved
 taken_writer state number line producer buffer policy from none = taken_as_it_is state number line (Writer producer buffer policy from) tt none
 
@@ -82,6 +87,12 @@ pub taken_clone : (state : State) (number : ℕ) (line : List ℕ) (buffer : Num
     → after_form state number line (Some (CloneBuffer buffer)) ≡ Ok (with_clone (with_line state number (kinds.CloneBuffer (value buffer))))
 unfolding moved
 taken_clone state number line buffer none = taken_as_it_is state number line (CloneBuffer buffer) tt none
+
+pub taken_raw : (state : State) (number : ℕ) (line : List ℕ) (raw : NamedRaw) → first (front_reasons state (Raw raw)) ≡ None
+    → after_form state number line (Some (Raw raw))
+    ≡ Ok (with_line state number (kinds.Raw (value raw.writer) (chunk_by raw (payload_part line))))
+unfolding moved
+taken_raw state number line raw none = taken_as_it_is state number line (Raw raw) tt none
 
 by_front : (state : State) (line : List ℕ) (form : Form) (reason : Reason) → first (front_reasons state form) ≡ Some reason
     → refusal_of state line form ≡ Some reason

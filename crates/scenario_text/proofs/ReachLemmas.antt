@@ -8,13 +8,13 @@ use Rattle.std.proofs.lemmas.List.Folds.{list_any-append}
 use Rattle.std.proofs.lemmas.Option.{slice_get_within}
 use Rattle.std.proofs.lemmas.Bool.{false_from_ne_true, not-false}
 use Rattle.trace_base.specs.declared.limits.TheConstants.{MAX_NUMBER}
-use Rattle.trace_base.proofs.Lists.{get_more}
 use Rattle.trace_base.specs.declared.policy.WriterSpec.{WriterSpec}
 use Rattle.field_tree.specs.Nodes.{Shown}
 use Rattle.trace_base.specs.declared.numeral.Numeral.{Numeral}
 use Rattle.trace_base.specs.declared.numeral.Numeral.TheVariants.{Fits, TooLarge}
 use Rattle.scenario_text.specs.declared.form.Form.{Form}
-use Rattle.scenario_text.specs.declared.form.Form.TheVariants.{Buffer, Producer, Writer, OfWriter, OfProducer, Read, Request, CloneBuffer}
+use Rattle.scenario_text.specs.declared.form.Form.TheVariants.{Buffer, Producer, Writer, OfWriter, OfProducer, Read, Request, CloneBuffer, Raw}
+use Rattle.scenario_text.specs.declared.form.NamedRaw.{NamedRaw}
 use Rattle.scenario_text.specs.declared.form.WriterStep.{WriterStep}
 use Rattle.scenario_text.specs.declared.form.WriterStep.TheVariants.{Packet, Begin, Add, Nest, Unnest, End, Flush}
 use Rattle.scenario_text.specs.declared.form.ProducerStep.{ProducerStep}
@@ -26,6 +26,9 @@ use Rattle.scenario_text.specs.declared.scenario.LineKind.TheVariants as kinds
 use Rattle.scenario_text.specs.declared.scenario.NumberedLine.{NumberedLine}
 use Rattle.scenario_text.specs.declared.scenario.Scenario.{Scenario}
 use Rattle.scenario_text.specs.Items.{item, with_item}
+use Rattle.scenario_text.specs.Forms.{form_of}
+use Rattle.scenario_text.specs.RawForms.{payload_part}
+use Rattle.scenario_text.specs.RawChunks.{chunk_by}
 use Rattle.scenario_text.specs.Ranges.{fits, value}
 use Rattle.scenario_text.specs.State.{State, beginning, is_closed}
 use Rattle.scenario_text.specs.Reasons.{front_reasons, back_reasons, refusal_of, given, is_limit, is_out_of_range, lacks_producer, lacks_buffer, lacks_writer, is_closed_for, has_closed_producer}
@@ -35,7 +38,9 @@ use Rattle.scenario_text.specs.Accepted.{closes, is_closed_by}
 use Rattle.scenario_text.specs.Reach.{NamesWriter, NamesProducer, NamesBuffer, ReadsBuffer, IsInReach, AreInReach}
 use Rattle.scenario_text.proofs.SoundLemmas.{both}
 use Rattle.scenario_text.proofs.FrontLemmas.{IsPassed, passed, within_least, within_most}
-use Rattle.scenario_text.proofs.LimitLemmas.{named}
+use Rattle.scenario_text.proofs.LimitLemmas.{KeepsLimits, limits_kept, named, nothing_kept}
+use Rattle.scenario_text.proofs.RawLemmas.{payload_is}
+use Rattle.scenario_text.proofs.ChunkReach.{more_named, chunk_more_writers, chunk_more_producers, chunk_more_buffers, chunk_in_reach}
 use Rattle.scenario_text.proofs.StateLemmas.{first_none, scenario_holds}
 
 -- Of each producer that a line has closed the state says so, and what the lines name is there.
@@ -83,15 +88,6 @@ reach_push buffers producers writers lines new all one = λ before line after is
 
 -- ---- more buffers, producers or writers
 
-more_named : (writers : List WriterSpec) (writer : WriterSpec) (before : List NumberedLine) (number : ℕ) → NamesWriter writers before number
-    → NamesWriter (writers ++ writer ∷ []) before number
-more_named writers writer before number names = record {
-  least = names.least;
-  spec = names.spec;
-  there = get_more writers (writer ∷ []) (number - 1) names.spec names.there;
-  opened = names.opened;
-}
-
 reach_writer : (buffers : List BufferLine) (producers : List ProducerLine) (writers : List WriterSpec) (writer : WriterSpec) (before : List NumberedLine)
     (kind : LineKind) → IsInReach buffers producers writers before kind → IsInReach buffers producers (writers ++ writer ∷ []) before kind
 reach_writer buffers producers writers writer before (kinds.Packet number fields) names = more_named writers writer before number names
@@ -107,6 +103,8 @@ reach_writer buffers producers writers writer before (kinds.Close producer) name
 reach_writer buffers producers writers writer before (kinds.Read buffer limit) names = names
 reach_writer buffers producers writers writer before kinds.Request names = names
 reach_writer buffers producers writers writer before (kinds.CloneBuffer buffer) names = names
+reach_writer buffers producers writers writer before (kinds.Raw number chunk) names =
+    chunk_more_writers buffers producers writers writer before number chunk names
 
 more_producers : (producers : List ProducerLine) (producer : ProducerLine) (before : List NumberedLine) (number : ℕ)
     → NamesProducer producers before number → NamesProducer (producers ++ producer ∷ []) before number
@@ -132,6 +130,8 @@ reach_producer buffers producers writers producer before (kinds.Close number) na
 reach_producer buffers producers writers producer before (kinds.Read buffer limit) names = names
 reach_producer buffers producers writers producer before kinds.Request names = names
 reach_producer buffers producers writers producer before (kinds.CloneBuffer buffer) names = names
+reach_producer buffers producers writers producer before (kinds.Raw number chunk) names =
+    chunk_more_producers buffers producers writers producer before number chunk names
 
 reach_buffer : (buffers : List BufferLine) (producers : List ProducerLine) (writers : List WriterSpec) (buffer : BufferLine)
     (before : List NumberedLine) (kind : LineKind) → IsInReach buffers producers writers before kind
@@ -153,6 +153,8 @@ reach_buffer buffers producers writers buffer before (kinds.Read number limit) n
   counted = names.counted;
 }
 reach_buffer buffers producers writers buffer before kinds.Request names = names
+reach_buffer buffers producers writers buffer before (kinds.Raw number chunk) names =
+    chunk_more_buffers buffers producers writers buffer before number chunk names
 reach_buffer buffers producers writers buffer before (kinds.CloneBuffer number) names = record {
   least = names.least;
   most = omega (arith, names.most, length-append buffers (buffer ∷ []));
@@ -252,14 +254,24 @@ unfolding item value
 named_fits things (Fits n) some = refl
 named_fits things TooLarge some = absurd cc
 
+writer_there : (state : State) (writer : Numeral) → is_none (item state.writers writer) ≡ false
+    → is_closed_for state (item state.writers writer) ≡ false → IsReaching state → NamesWriter state.writers state.lines (value writer)
+unfolding is_closed_for
+writer_there state writer there open_is reaching =
+    let n = named state.writers writer there in
+    let opened : is_closed state (Fits n.thing.producer) ≡ false =
+    subst (λ (found : Option WriterSpec). is_closed_for state found ≡ false) n.item_is open_is in
+    record { least = n.counted; spec = n.thing; there = n.is; opened = opened_before state n.thing.producer reaching opened }
+
 writer_in_reach : (state : State) (writer : Numeral) (step : WriterStep) → IsPassed state (OfWriter writer step) → IsReaching state
     → NamesWriter state.writers state.lines (value writer)
-unfolding lacks_writer has_closed_producer is_closed_for
-writer_in_reach state writer step pass reaching =
-    let n = named state.writers writer pass.writer in
-    let opened : is_closed state (Fits n.thing.producer) ≡ false =
-    subst (λ (found : Option WriterSpec). is_closed_for state found ≡ false) n.item_is pass.opened in
-    record { least = n.counted; spec = n.thing; there = n.is; opened = opened_before state n.thing.producer reaching opened }
+unfolding lacks_writer has_closed_producer
+writer_in_reach state writer step pass reaching = writer_there state writer pass.writer pass.opened reaching
+
+raw_writer_in_reach : (state : State) (raw : NamedRaw) → IsPassed state (Raw raw) → IsReaching state
+    → NamesWriter state.writers state.lines (value raw.writer)
+unfolding lacks_writer has_closed_producer
+raw_writer_in_reach state raw pass reaching = writer_there state raw.writer pass.writer pass.opened reaching
 
 producer_in_reach : (state : State) (producer : Numeral) (step : ProducerStep) → IsPassed state (OfProducer producer step) → IsReaching state
     → NamesProducer state.producers state.lines (value producer)
@@ -336,10 +348,10 @@ writer_reaches buffers producers writers before writer Unnest nodes names = name
 writer_reaches buffers producers writers before writer End nodes names = names
 writer_reaches buffers producers writers before writer Flush nodes names = names
 
-writer_keeps : (state : State) (number : ℕ) (writer : Numeral) (step : WriterStep) (nodes : List Shown)
-    → IsPassed state (OfWriter writer step) → IsReaching state → IsReaching (moved state number (OfWriter writer step) nodes)
+writer_keeps : (state : State) (number : ℕ) (line : List ℕ) (writer : Numeral) (step : WriterStep) (nodes : List Shown)
+    → IsPassed state (OfWriter writer step) → IsReaching state → IsReaching (moved state number line (OfWriter writer step) nodes)
 unfolding moved written with_bytes with_packet with_line is_closed
-writer_keeps state number writer step nodes pass reaching =
+writer_keeps state number line writer step nodes pass reaching =
     let kind = writer_kind (value writer) step nodes in
     let with = reach_line state number kind (λ producer. writer_closes producer (value writer) step nodes)
     (writer_reaches state.buffers state.producers state.writers state.lines (value writer) step nodes (writer_in_reach state writer step pass reaching)) reaching in
@@ -383,45 +395,59 @@ producer_keeps state number producer Scrape pass reaching =
     reach_line state number (kinds.Scrape (value producer)) (λ other. refl) (producer_in_reach state producer Scrape pass reaching) reaching
 producer_keeps state number producer Close pass reaching = close_keeps state number producer pass reaching
 
-moved_keeps : (state : State) (number : ℕ) (form : Form) (nodes : List Shown) → IsPassed state form → IsReaching state
-    → IsReaching (moved state number form nodes)
+moved_keeps : (state : State) (number : ℕ) (line : List ℕ) (form : Form) (nodes : List Shown) → form_of line ≡ Some form
+    → IsPassed state form
+    → KeepsLimits state → IsReaching state
+    → IsReaching (moved state number line form nodes)
 unfolding moved with_clone is_closed item closes
-moved_keeps state number (Buffer kb policy) nodes pass reaching =
+moved_keeps state number line (Buffer kb policy) nodes formed pass keeps reaching =
     let buffer : BufferLine = record { kb = value kb; policy = policy } in
     record {
       many = reaching.many;
       known = reaching.known;
       each = λ before line after is. reach_buffer state.buffers state.producers state.writers buffer before line.what (reaching.each before line after is);
     }
-moved_keeps state number (Producer pages page_size chunks) nodes pass reaching =
+moved_keeps state number line (Producer pages page_size chunks) nodes formed pass keeps reaching =
     let producer : ProducerLine = record { pages = value pages; page_size = value page_size; chunks = value chunks } in
     record {
       many = omega (arith, length-append state.closed (false ∷ []), length-append state.producers (producer ∷ []), reaching.many);
       known = λ other closed. pushed_at (nat_eq other 0) state.closed other (reaching.known other closed);
       each = λ before line after is. reach_producer state.buffers state.producers state.writers producer before line.what (reaching.each before line after is);
     }
-moved_keeps state number (Writer producer buffer policy from) nodes pass reaching =
+moved_keeps state number line (Writer producer buffer policy from) nodes formed pass keeps reaching =
     let writer : WriterSpec = record { producer = value producer; buffer = value buffer; policy = policy_of policy; from = first_id from } in
     record {
       many = reaching.many;
       known = reaching.known;
       each = λ before line after is. reach_writer state.buffers state.producers state.writers writer before line.what (reaching.each before line after is);
     }
-moved_keeps state number (OfWriter writer step) nodes pass reaching = writer_keeps state number writer step nodes pass reaching
-moved_keeps state number (OfProducer producer step) nodes pass reaching = producer_keeps state number producer step pass reaching
-moved_keeps state number (Read buffer limit) nodes pass reaching =
+moved_keeps state number line (OfWriter writer step) nodes formed pass keeps reaching =
+    writer_keeps state number line writer step nodes pass reaching
+moved_keeps state number line (OfProducer producer step) nodes formed pass keeps reaching =
+    producer_keeps state number producer step pass reaching
+moved_keeps state number line (Read buffer limit) nodes formed pass keeps reaching =
     reach_line state number (kinds.Read (value buffer) (limit_of limit)) (λ other. refl) (buffer_in_reach state buffer limit pass) reaching
-moved_keeps state number Request nodes pass reaching = reach_line state number kinds.Request (λ other. refl) tt reaching
-moved_keeps state number (CloneBuffer buffer) nodes pass reaching =
+moved_keeps state number line Request nodes formed pass keeps reaching = reach_line state number kinds.Request (λ other. refl) tt reaching
+moved_keeps state number line (Raw raw) nodes formed pass keeps reaching =
+    let payload = payload_part line in
+    reach_line state number (kinds.Raw (value raw.writer) (chunk_by raw payload)) (λ other. refl)
+    (chunk_in_reach state raw payload (raw_writer_in_reach state raw pass reaching) pass keeps (payload_is line raw formed)) reaching
+moved_keeps state number line (CloneBuffer buffer) nodes formed pass keeps reaching =
     let with = reach_line state number (kinds.CloneBuffer (value buffer)) (λ other. refl) (clone_in_reach state buffer pass) reaching in
     record { many = with.many; known = with.known; each = with.each }
 
-line_keeps : (state : State) (number : ℕ) (line : List ℕ) (form : Form) → refusal_of state line form ≡ None → IsReaching state
-    → IsReaching (moved state number form (nodes_given (given state line form)))
+-- what is kept beside the limits of the set-up
+abbrev Reaches : State → Type 0
+Reaches state = KeepsLimits state × IsReaching state
+
+line_keeps : (state : State) (number : ℕ) (line : List ℕ) (form : Form) → form_of line ≡ Some form → refusal_of state line form ≡ None
+    → Reaches state → Reaches (moved state number line form (nodes_given (given state line form)))
 unfolding refusal_of
-line_keeps state number line form none reaching =
-    moved_keeps state number form (nodes_given (given state line form))
-    (passed state form (first_none (front_reasons state form) (back_reasons state line form) none).0) reaching
+line_keeps state number line form formed none holds = (
+  limits_kept state number line form none holds.0,
+  moved_keeps state number line form (nodes_given (given state line form)) formed
+      (passed state form (first_none (front_reasons state form) (back_reasons state line form) none).0) holds.0 holds.1,
+)
 
 nothing_reached : IsReaching beginning
 nothing_reached = record {
@@ -435,5 +461,5 @@ nothing_reached = record {
 pub scenario_is_in_reach : (scenario : Scenario) → IsScenario scenario
     → AreInReach scenario.buffers.items scenario.producers.items scenario.writers.items scenario.lines
 scenario_is_in_reach scenario is =
-    let end = scenario_holds IsReaching line_keeps nothing_reached scenario is in
-    subst (λ (parts : Parts). AreInReach parts.buffers parts.producers parts.writers parts.lines) end.says end.holds.each
+    let end = scenario_holds Reaches line_keeps (nothing_kept, nothing_reached) scenario is in
+    subst (λ (parts : Parts). AreInReach parts.buffers parts.producers parts.writers parts.lines) end.says end.holds.1.each

@@ -7,7 +7,7 @@ use Rattle.trace_base.specs.declared.limits.TheConstants.{MAX_SCENARIO_PACKET_BY
 use Rattle.field_tree.specs.Nodes.{Shown}
 use Rattle.trace_base.specs.declared.numeral.Numeral.{Numeral}
 use Rattle.scenario_text.specs.declared.form.Form.{Form}
-use Rattle.scenario_text.specs.declared.form.Form.TheVariants.{Buffer, Producer, Writer, OfWriter, OfProducer, Read, Request, CloneBuffer}
+use Rattle.scenario_text.specs.declared.form.Form.TheVariants.{Buffer, Producer, Writer, OfWriter, OfProducer, Read, Request, CloneBuffer, Raw}
 use Rattle.scenario_text.specs.declared.form.WriterStep.{WriterStep}
 use Rattle.scenario_text.specs.declared.form.WriterStep.TheVariants.{Packet, Begin, Add, Nest, Unnest, End, Flush}
 use Rattle.scenario_text.specs.declared.form.ProducerStep.{ProducerStep}
@@ -80,7 +80,7 @@ counted_service state producer Scrape counted = counted
 counted_service state producer Close counted = record { sum_is = counted.sum_is; most = counted.most }
 
 counted_writer : (state : State) (number : ℕ) (line : List ℕ) (writer : Numeral) (step : WriterStep) → refusal_of state line (OfWriter writer step) ≡ None
-    → AreCounted state → AreCounted (moved state number (OfWriter writer step) (nodes_given (given state line (OfWriter writer step))))
+    → AreCounted state → AreCounted (moved state number line (OfWriter writer step) (nodes_given (given state line (OfWriter writer step))))
 unfolding refusal_of moved given written with_line with_packet with_bytes
 counted_writer state number line writer step none counted =
     let reasons = first_none (front_reasons state (OfWriter writer step)) (back_reasons state line (OfWriter writer step)) none in
@@ -92,7 +92,7 @@ counted_writer state number line writer step none counted =
     }
 
 counted_keeps : (state : State) (number : ℕ) (line : List ℕ) (form : Form) → refusal_of state line form ≡ None → AreCounted state
-    → AreCounted (moved state number form (nodes_given (given state line form)))
+    → AreCounted (moved state number line form (nodes_given (given state line form)))
 unfolding moved with_clone
 counted_keeps state number line (Buffer kb policy) none counted = record { sum_is = counted.sum_is; most = counted.most }
 counted_keeps state number line (Producer pages page_size chunks) none counted = record { sum_is = counted.sum_is; most = counted.most }
@@ -103,6 +103,7 @@ counted_keeps state number line (OfProducer producer step) none counted =
     (counted_line state number (producer_kind (value producer) step) (producer_len (value producer) step) counted)
 counted_keeps state number line (Read buffer limit) none counted = counted_line state number _ refl counted
 counted_keeps state number line Request none counted = counted_line state number _ refl counted
+counted_keeps state number line (Raw raw) none counted = counted_line state number _ refl counted
 counted_keeps state number line (CloneBuffer buffer) none counted =
     let with = counted_line state number _ refl counted in
     record { sum_is = with.sum_is; most = with.most }
@@ -116,18 +117,20 @@ OneMore state after = length after.lines ≤ length state.lines + 1
 push_one : (lines : List NumberedLine) (line : NumberedLine) → length (lines ++ line ∷ []) ≤ length lines + 1
 push_one lines line = omega (arith, length-append lines (line ∷ []))
 
-moved_one : (state : State) (number : ℕ) (form : Form) (nodes : List Shown) → OneMore state (moved state number form nodes)
+moved_one : (state : State) (number : ℕ) (line : List ℕ) (form : Form) (nodes : List Shown)
+    → OneMore state (moved state number line form nodes)
 unfolding moved written with_line with_packet with_bytes with_clone
-moved_one state number (Buffer kb policy) nodes = omega arith
-moved_one state number (Producer pages page_size chunks) nodes = omega arith
-moved_one state number (Writer producer buffer policy from) nodes = omega arith
-moved_one state number (OfWriter writer step) nodes = push_one state.lines _
-moved_one state number (OfProducer producer step) nodes =
+moved_one state number line (Buffer kb policy) nodes = omega arith
+moved_one state number line (Producer pages page_size chunks) nodes = omega arith
+moved_one state number line (Writer producer buffer policy from) nodes = omega arith
+moved_one state number line (OfWriter writer step) nodes = push_one state.lines _
+moved_one state number line (OfProducer producer step) nodes =
     subst (λ (lines : List NumberedLine). length lines ≤ length state.lines + 1)
     (sym (served_lines (with_line state number (producer_kind (value producer) step)) producer step)) (push_one state.lines _)
-moved_one state number (Read buffer limit) nodes = push_one state.lines _
-moved_one state number Request nodes = push_one state.lines _
-moved_one state number (CloneBuffer buffer) nodes = push_one state.lines _
+moved_one state number line (Read buffer limit) nodes = push_one state.lines _
+moved_one state number line Request nodes = push_one state.lines _
+moved_one state number line (CloneBuffer buffer) nodes = push_one state.lines _
+moved_one state number line (Raw raw) nodes = push_one state.lines _
 
 unless_one : (refusal : Option Reason) (state middle after : State) → OneMore state middle → unless refusal middle ≡ Ok after → OneMore state after
 unfolding unless
@@ -138,8 +141,8 @@ form_one : (form : Option Form) (state after : State) (number : ℕ) (line : Lis
 unfolding after_form
 form_one None state after number line leads = absurd cc
 form_one (Some form) state after number line leads =
-    unless_one (refusal_of state line form) state (moved state number form (nodes_given (given state line form))) after
-    (moved_one state number form (nodes_given (given state line form))) leads
+    unless_one (refusal_of state line form) state (moved state number line form (nodes_given (given state line form))) after
+    (moved_one state number line form (nodes_given (given state line form))) leads
 
 says_one : (nothing : Bool) (state after : State) (number : ℕ) (line : List ℕ)
     → cond nothing (Ok state) (after_form state number line (form_of line)) ≡ Ok after → OneMore state after
@@ -201,7 +204,9 @@ pieces_few test bytes = omega (arith, length-slice_split test bytes, count_by-le
 
 pub scenario_is_short : (scenario : Scenario) → IsScenario scenario → AreShort scenario.lines
 scenario_is_short scenario is =
-    let end = scenario_holds AreCounted counted_keeps (record { sum_is = refl; most = omega arith }) scenario is in
+    let end =
+    scenario_holds AreCounted (λ state number line form formed none counted. counted_keeps state number line form none counted)
+    (record { sum_is = refl; most = omega arith }) scenario is in
     record {
       few = omega (arith, is.short, scenario_few scenario is, pieces_few (λ b. nat_eq b 10) is.text);
       short = subst (λ (parts : Parts). lines_len parts.lines ≤ MAX_SCENARIO_PACKET_BYTES) end.says

@@ -20,8 +20,9 @@ first_none (Some reason ∷ front) back none = cc
 
 -- an accepted line keeps it
 abbrev pub Keeps : (State → Type 0) → Type 0
-Keeps P = (state : State) (number : ℕ) (line : List ℕ) (form : Form) → refusal_of state line form ≡ None → P state
-    → P (moved state number form (nodes_given (given state line form)))
+Keeps P = (state : State) (number : ℕ) (line : List ℕ) (form : Form) → form_of line ≡ Some form → refusal_of state line form ≡ None
+    → P state
+    → P (moved state number line form (nodes_given (given state line form)))
 
 -- a state in which it holds, and in which no packet is left
 record IsEnd (P : State → Type 0) (state : State) : Type 0 where
@@ -31,25 +32,26 @@ record IsEnd (P : State → Type 0) (state : State) : Type 0 where
 -- ---- one line
 
 unless_keeps : (P : State → Type 0) → Keeps P → (refusal : Option Reason) (state after : State) (number : ℕ) (line : List ℕ) (form : Form)
-    → refusal_of state line form ≡ refusal → P state
-    → unless refusal (moved state number form (nodes_given (given state line form))) ≡ Ok after → P after
+    → form_of line ≡ Some form → refusal_of state line form ≡ refusal → P state
+    → unless refusal (moved state number line form (nodes_given (given state line form))) ≡ Ok after → P after
 unfolding unless
-unless_keeps P keeps None state after number line form is holds leads =
-    let same : moved state number form (nodes_given (given state line form)) ≡ after = cc in
-    subst P same (keeps state number line form is holds)
-unless_keeps P keeps (Some reason) state after number line form is holds leads = absurd cc
+unless_keeps P keeps None state after number line form formed is holds leads =
+    let same : moved state number line form (nodes_given (given state line form)) ≡ after = cc in
+    subst P same (keeps state number line form formed is holds)
+unless_keeps P keeps (Some reason) state after number line form formed is holds leads = absurd cc
 
-form_keeps : (P : State → Type 0) → Keeps P → (form : Option Form) (state after : State) (number : ℕ) (line : List ℕ) → P state
+form_keeps : (P : State → Type 0) → Keeps P → (form : Option Form) (state after : State) (number : ℕ) (line : List ℕ)
+    → form_of line ≡ form → P state
     → after_form state number line form ≡ Ok after → P after
 unfolding after_form
-form_keeps P keeps None state after number line holds leads = absurd cc
-form_keeps P keeps (Some form) state after number line holds leads =
-    unless_keeps P keeps (refusal_of state line form) state after number line form refl holds leads
+form_keeps P keeps None state after number line formed holds leads = absurd cc
+form_keeps P keeps (Some form) state after number line formed holds leads =
+    unless_keeps P keeps (refusal_of state line form) state after number line form formed refl holds leads
 
 says_keeps : (P : State → Type 0) → Keeps P → (nothing : Bool) (state after : State) (number : ℕ) (line : List ℕ) → P state
     → cond nothing (Ok state) (after_form state number line (form_of line)) ≡ Ok after → P after
 says_keeps P keeps true state after number line holds leads = let same : state ≡ after = cc in subst P same holds
-says_keeps P keeps false state after number line holds leads = form_keeps P keeps (form_of line) state after number line holds leads
+says_keeps P keeps false state after number line holds leads = form_keeps P keeps (form_of line) state after number line refl holds leads
 
 line_keeps : (P : State → Type 0) → Keeps P → (state after : State) (number : ℕ) (line : List ℕ) → P state
     → after_line state number line ≡ Ok after → P after

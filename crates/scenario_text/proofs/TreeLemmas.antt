@@ -13,7 +13,7 @@ use Rattle.field_tree.proofs.AnswerLemmas.{outcome_means}
 use Rattle.trace_base.specs.declared.limits.TheConstants.{MAX_NESTING, MAX_PACKET_LEN}
 use Rattle.trace_base.specs.declared.numeral.Numeral.{Numeral}
 use Rattle.scenario_text.specs.declared.form.Form.{Form}
-use Rattle.scenario_text.specs.declared.form.Form.TheVariants.{Buffer, Producer, Writer, OfWriter, OfProducer, Read, Request, CloneBuffer}
+use Rattle.scenario_text.specs.declared.form.Form.TheVariants.{Buffer, Producer, Writer, OfWriter, OfProducer, Read, Request, CloneBuffer, Raw}
 use Rattle.scenario_text.specs.declared.form.WriterStep.{WriterStep}
 use Rattle.scenario_text.specs.declared.form.WriterStep.TheVariants.{Packet, Begin, Add, Nest, Unnest, End, Flush}
 use Rattle.scenario_text.specs.declared.form.ProducerStep.{ProducerStep}
@@ -125,7 +125,7 @@ served_lines state producer Scrape = refl
 served_lines state producer Close = refl
 
 moved_trees : (state : State) (number : ℕ) (line : List ℕ) (form : Form) → GiveTrees state.lines
-    → GiveTrees (moved state number form (nodes_given (given state line form))).lines
+    → GiveTrees (moved state number line form (nodes_given (given state line form))).lines
 unfolding moved given written with_line with_packet with_bytes with_clone
 moved_trees state number line (Buffer kb policy) all = all
 moved_trees state number line (Producer pages page_size chunks) all = all
@@ -139,11 +139,14 @@ moved_trees state number line (OfProducer producer step) all =
 moved_trees state number line (Read buffer limit) all = one_more state.lines _ all tt
 moved_trees state number line Request all = one_more state.lines _ all tt
 moved_trees state number line (CloneBuffer buffer) all = one_more state.lines _ all tt
+moved_trees state number line (Raw raw) all = one_more state.lines _ all tt
 
 -- ---- every scenario
 
 pub scenario_gives_trees : (scenario : Scenario) → IsScenario scenario → GiveTrees scenario.lines
 scenario_gives_trees scenario is =
-    let end = scenario_holds (λ (state : State). GiveTrees state.lines) (λ state number line form none all. moved_trees state number line form all) tt
+    let end =
+    scenario_holds (λ (state : State). GiveTrees state.lines)
+    (λ state number line form formed none all. moved_trees state number line form all) tt
     scenario is in
     subst (λ (parts : Parts). GiveTrees parts.lines) end.says end.holds

@@ -1,6 +1,7 @@
 -- The calls that a scenario's lines ask of its writers, and that a writer accepts each of them where it stands: its fields,
 -- depths and lengths are those of what the writer has been asked to write so far. Which calls a writer accepts is this
 -- profile's: protobuf's field numbers, none of the service's own fields at the top level, and the limits of a packet.
+-- The packets that are written so are ones that the packet check accepts.
 use Rattle.std.specs.Prelude.{◌≡◌, ℕ, ◌+◌, ◌*◌, ◌<◌, ◌≤◌, ◌==◌, All, Bool, true, false, List, [], ◌∷◌, ◌++◌, length, map, Some, slice_get, ⊤, if◌then◌else◌}
 use Rattle.std.specs.List.{filter, flat_map, list_any}
 use Rattle.trace_base.specs.declared.limits.TheConstants.{MAX_NESTING, MAX_PACKET_LEN}
@@ -9,7 +10,8 @@ use Rattle.trace_base.specs.Reserved.{is_reserved}
 use Rattle.trace_model.specs.Calls as call
 use Rattle.trace_model.specs.Calls.{Call}
 use Rattle.trace_model.specs.Encoding.{number_field, bytes_head, nested_tag}
-use Rattle.trace_model.specs.Packets.{Account, Packet, nothing_yet, noted, packets_of, is_writing, open_count, newest_length}
+use Rattle.trace_model.specs.Packets.{Account, Packet, nothing_yet, noted, packets_of, emissions_of, is_writing, open_count, newest_length}
+use Rattle.trace_model.specs.Walks.{is_accepted}
 use Rattle.field_tree.specs.declared.node.FieldNode.TheVariants as node
 use Rattle.field_tree.specs.Nodes.{Shown, IsField}
 use Rattle.scenario_text.specs.declared.scenario.LineKind.{LineKind}
@@ -115,12 +117,13 @@ abbrev pub is_closed_by : List NumberedLine → ℕ → Bool
 is_closed_by lines producer = list_any (λ line. closes producer line.what) lines
 
 -- Of each value that the grammar gives: a writer accepts what its lines ask of it, and ends its last packet, unless a line
--- has closed its producer.
+-- has closed its producer; and the packet check accepts each packet that it emits.
 pub record AsksWell (lines : List NumberedLine) (number : ℕ) (writer : WriterSpec) : Type 0 where
   pub accepted : AreAccepted nothing_yet (calls_asked number lines)
   pub ended : is_closed_by lines writer.producer ≡ false → is_writing (packets_of (calls_asked number lines)) ≡ false
+  pub passes : All (λ (packet : List ℕ). is_accepted packet ≡ true) (emissions_of (calls_asked number lines))
 
--- The calls of each writer of a scenario are ones that a writer accepts.
+-- The calls of each writer of a scenario are ones that a writer accepts, and what they emit the packet check accepts.
 abbrev pub ScenariosAreAccepted : Type 0
 ScenariosAreAccepted = (scenario : Scenario) → IsScenario scenario
     → (place : ℕ) (writer : WriterSpec) → slice_get scenario.writers.items place ≡ Some writer

@@ -5,7 +5,7 @@ use Rattle.trace_base.specs.declared.numeral.Numeral.{Numeral}
 use Rattle.trace_base.specs.declared.policy.WriterPolicy.{WriterPolicy}
 use Rattle.trace_base.specs.declared.policy.WriterPolicy.TheVariants as policies
 use Rattle.scenario_text.specs.declared.form.Form.{Form}
-use Rattle.scenario_text.specs.declared.form.Form.TheVariants.{Buffer, Producer, Writer, OfWriter, OfProducer, Read, Request, CloneBuffer}
+use Rattle.scenario_text.specs.declared.form.Form.TheVariants.{Buffer, Producer, Writer, OfWriter, OfProducer, Read, Request, CloneBuffer, Raw}
 use Rattle.scenario_text.specs.declared.form.NamedPolicy.{NamedPolicy}
 use Rattle.scenario_text.specs.declared.form.NamedPolicy.TheVariants.{Drops, Stalls, StallsThenDrops}
 use Rattle.scenario_text.specs.declared.form.WriterStep.{WriterStep}
@@ -19,6 +19,8 @@ use Rattle.field_tree.specs.declared.fault.FieldFault.{FieldFault}
 use Rattle.field_tree.specs.Nodes.{Shown}
 use Rattle.scenario_text.specs.Items.{with_item}
 use Rattle.scenario_text.specs.Ranges.{value}
+use Rattle.scenario_text.specs.RawForms.{payload_part}
+use Rattle.scenario_text.specs.RawChunks.{chunk_by}
 use Rattle.scenario_text.specs.State.{State, packet_of}
 use Rattle.scenario_text.specs.Reasons.{step_len}
 
@@ -105,24 +107,25 @@ unfoldable pub served : State → Numeral → ProducerStep → State
 served state producer Close = with_closed state producer
 served state producer step = state
 
--- what a line of this form adds
-unfoldable pub moved : State → ℕ → Form → List Shown → State
-moved state line (Buffer kb policy) nodes =
+-- what this line, of this form, adds
+unfoldable pub moved : State → ℕ → List ℕ → Form → List Shown → State
+moved state line text (Buffer kb policy) nodes =
     record state { buffers = state.buffers ++ (record { kb = value kb; policy = policy }) ∷ [] }
-moved state line (Producer pages page_size chunks) nodes = record state {
+moved state line text (Producer pages page_size chunks) nodes = record state {
   producers = state.producers ++ (record { pages = value pages; page_size = value page_size; chunks = value chunks }) ∷ [];
   closed = state.closed ++ false ∷ [];
 }
-moved state line (Writer producer buffer policy from) nodes = record state {
+moved state line text (Writer producer buffer policy from) nodes = record state {
   writers = state.writers ++ (record { producer = value producer; buffer = value buffer; policy = policy_of policy; from = first_id from }) ∷ [];
   packets = state.packets ++ None ∷ [];
 }
-moved state line (OfWriter writer step) nodes = written state line writer step nodes (step_len step nodes)
-moved state line (OfProducer producer step) nodes =
+moved state line text (OfWriter writer step) nodes = written state line writer step nodes (step_len step nodes)
+moved state line text (OfProducer producer step) nodes =
     served (with_line state line (producer_kind (value producer) step)) producer step
-moved state line (Read buffer limit) nodes = with_line state line (kinds.Read (value buffer) (limit_of limit))
-moved state line Request nodes = with_line state line kinds.Request
-moved state line (CloneBuffer buffer) nodes = with_clone (with_line state line (kinds.CloneBuffer (value buffer)))
+moved state line text (Read buffer limit) nodes = with_line state line (kinds.Read (value buffer) (limit_of limit))
+moved state line text Request nodes = with_line state line kinds.Request
+moved state line text (CloneBuffer buffer) nodes = with_clone (with_line state line (kinds.CloneBuffer (value buffer)))
+moved state line text (Raw raw) nodes = with_line state line (kinds.Raw (value raw.writer) (chunk_by raw (payload_part text)))
 
 -- how often a writer asks can be counted
 abbrev pub TriesFit : NamedPolicy → Type 0

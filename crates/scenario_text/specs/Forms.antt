@@ -4,11 +4,13 @@ use Rattle.std.specs.Str.{bytes_eq}
 use Rattle.trace_base.specs.declared.policy.FullPolicy.TheVariants.{Ring, Discard}
 use Rattle.trace_base.specs.declared.numeral.Numeral.{Numeral}
 use Rattle.scenario_text.specs.declared.form.Form.{Form}
+use Rattle.scenario_text.specs.declared.form.NamedRaw.{NamedRaw}
 use Rattle.scenario_text.specs.declared.form.NamedPolicy.TheVariants.{Drops, Stalls, StallsThenDrops}
-use Rattle.scenario_text.specs.declared.form.Form.TheVariants.{Buffer, Producer, Writer, OfWriter, OfProducer, Read, Request, CloneBuffer}
+use Rattle.scenario_text.specs.declared.form.Form.TheVariants.{Buffer, Producer, Writer, OfWriter, OfProducer, Read, Request, CloneBuffer, Raw}
 use Rattle.scenario_text.specs.declared.form.WriterStep.TheVariants.{Packet, Begin, Add, Nest, Unnest, End, Flush}
 use Rattle.scenario_text.specs.declared.form.ProducerStep.TheVariants.{Collect, Scrape, Close}
 use Rattle.scenario_text.specs.Pieces.{pieces}
+use Rattle.scenario_text.specs.RawForms.{raw_words}
 use Rattle.trace_base.specs.Numerals.{numeral_of}
 
 -- the word is this text
@@ -108,11 +110,17 @@ more_words word second (third ∷ []) = three_words word second third
 more_words word second (third ∷ fourth ∷ []) = four_words word second third fourth
 more_words word second (third ∷ fourth ∷ fifth ∷ others) = late_words word second third fourth (fifth ∷ others)
 
--- `p W FIELDS` and `a W FIELDS`, whose words behind the second one are those of their FIELDS; or another line
+-- the form of a line that names a chunk
+unfoldable pub raw_form : Option NamedRaw → Option Form
+raw_form None = None
+raw_form (Some raw) = Some (Raw raw)
+
+-- `p W FIELDS` and `a W FIELDS`, whose words behind the second one are those of their FIELDS; a line `raw`; or another line
 unfoldable pub long_form : List ℕ → List ℕ → List (List ℕ) → Option Form
 long_form word second others =
     if is word (codes "p") then with_number (λ w. Some (OfWriter w (Packet true))) second
     else if is word (codes "a") then with_number (λ w. Some (OfWriter w Add)) second
+    else if is word (codes "raw") then raw_form (raw_words second others)
     else more_words word second others
 
 -- the form of a line, by its words

@@ -22,7 +22,7 @@ unless (Some reason) state = Err reason
 unfoldable pub after_form : State → ℕ → List ℕ → Option Form → Result State Reason
 after_form state number line None = Err BadLine
 after_form state number line (Some form) =
-    unless (refusal_of state line form) (moved state number form (nodes_given (given state line form)))
+    unless (refusal_of state line form) (moved state number line form (nodes_given (given state line form)))
 
 -- an empty line and one that begins with '#' say nothing
 unfoldable pub says_nothing : List ℕ → Bool

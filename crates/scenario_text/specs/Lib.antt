@@ -1,7 +1,12 @@
 pub mod Pieces
+pub mod Hex
+pub mod RawForms
 pub mod Forms
 pub mod Items
 pub mod Ranges
+pub mod RawRanges
+pub mod RawChunks
+pub mod Raws
 pub mod State
 pub mod Reasons
 pub mod Sound

@@ -9,7 +9,7 @@ use Rattle.scenario_text.specs.declared.form.Form.{Form}
 use Rattle.scenario_text.specs.declared.form.TheConstants.{MAX_CHUNK_ID, MAX_CLONES, MAX_TRIES}
 use Rattle.scenario_text.specs.declared.form.NamedPolicy.{NamedPolicy}
 use Rattle.scenario_text.specs.declared.form.NamedPolicy.TheVariants.{StallsThenDrops}
-use Rattle.scenario_text.specs.declared.form.Form.TheVariants.{Buffer, Producer, Writer, OfWriter, OfProducer, Read, Request, CloneBuffer}
+use Rattle.scenario_text.specs.declared.form.Form.TheVariants.{Buffer, Producer, Writer, OfWriter, OfProducer, Read, Request, CloneBuffer, Raw}
 use Rattle.scenario_text.specs.declared.form.WriterStep.{WriterStep}
 use Rattle.scenario_text.specs.declared.form.WriterStep.TheVariants.{Packet, Begin, Add, Nest, Unnest, End, Flush}
 use Rattle.scenario_text.specs.declared.reason.Reason.{Reason}
@@ -26,6 +26,7 @@ use Rattle.field_tree.specs.Answers.{outcome}
 use Rattle.scenario_text.specs.Pieces.{fields_part}
 use Rattle.scenario_text.specs.Items.{item}
 use Rattle.scenario_text.specs.Ranges.{fits, value, is_within, is_page_size, is_chunk_count}
+use Rattle.scenario_text.specs.RawRanges.{are_raw_numbers}
 use Rattle.scenario_text.specs.State.{State, is_played, is_closed, packet_of, nesting_of, len_of}
 
 -- ---- a number other than a reference is outside its range, or any number is 2 ^ 64 or more
@@ -59,6 +60,7 @@ is_out_of_range (OfProducer producer step) = not (fits producer)
 is_out_of_range (Read buffer limit) = not (fits buffer && is_limit limit)
 is_out_of_range Request = false
 is_out_of_range (CloneBuffer buffer) = not (fits buffer)
+is_out_of_range (Raw raw) = not (are_raw_numbers raw)
 
 -- ---- a set-up line after another kind of line
 
@@ -93,11 +95,13 @@ unfoldable pub lacks_buffer : State → Form → Bool
 lacks_buffer state (Writer producer buffer policy from) = is_none (item state.buffers buffer)
 lacks_buffer state (Read buffer limit) = is_none (item state.buffers buffer)
 lacks_buffer state (CloneBuffer buffer) = is_none (item state.buffers buffer)
+lacks_buffer state (Raw raw) = is_none (item state.buffers raw.buffer)
 lacks_buffer state form = false
 
 -- the line names a writer that there isn't
 unfoldable pub lacks_writer : State → Form → Bool
 lacks_writer state (OfWriter writer step) = is_none (item state.writers writer)
+lacks_writer state (Raw raw) = is_none (item state.writers raw.writer)
 lacks_writer state form = false
 
 -- ---- a record of the writer's is larger than its buffer
@@ -122,7 +126,25 @@ is_closed_for state (Some writer) = is_closed state (Fits writer.producer)
 unfoldable pub has_closed_producer : State → Form → Bool
 has_closed_producer state (OfWriter writer step) = is_closed_for state (item state.writers writer)
 has_closed_producer state (OfProducer producer step) = is_closed state producer
+has_closed_producer state (Raw raw) = is_closed_for state (item state.writers raw.writer)
 has_closed_producer state form = false
+
+-- ---- a raw chunk's payload is longer than the writer's payload size
+
+-- the producer of a writer
+unfoldable pub producer_of : State → Option WriterSpec → Option ProducerLine
+producer_of state None = None
+producer_of state (Some writer) = item state.producers (Fits writer.producer)
+
+-- so many bytes are more than the payload of one of the producer's chunks
+unfoldable pub is_longer : ℕ → Option ProducerLine → Bool
+is_longer len None = false
+is_longer len (Some producer) = nat_lt (payload_size producer.page_size producer.chunks) len
+
+-- the payload is longer than one of the writer's chunks has
+unfoldable pub has_long_payload : State → Form → Bool
+has_long_payload state (Raw raw) = is_longer raw.len (producer_of state (item state.writers raw.writer))
+has_long_payload state form = false
 
 -- ---- packets and nested messages
 
@@ -164,6 +186,15 @@ first [] = None
 first (None ∷ more) = first more
 first (Some reason ∷ more) = Some reason
 
+-- those of what the line's writer has begun
+abbrev pub packet_reasons : State → Form → List (Option Reason)
+packet_reasons state form =
+    when (meets_packet state form) reasons.PacketBegun
+    ∷ when (lacks_packet state form) reasons.NoPacket
+    ∷ when (lacks_nesting state form) reasons.NoNesting
+    ∷ when (leaves_nesting state form) reasons.NestingLeft
+    ∷ []
+
 -- those that don't rest on what a line gives a packet
 unfoldable pub front_reasons : State → Form → List (Option Reason)
 front_reasons state form =
@@ -175,11 +206,8 @@ front_reasons state form =
     ∷ when (lacks_writer state form) reasons.NoSuchWriter
     ∷ when (has_larger_chunks state form) reasons.ChunkLargerThanBuffer
     ∷ when (has_closed_producer state form) reasons.ProducerClosed
-    ∷ when (meets_packet state form) reasons.PacketBegun
-    ∷ when (lacks_packet state form) reasons.NoPacket
-    ∷ when (lacks_nesting state form) reasons.NoNesting
-    ∷ when (leaves_nesting state form) reasons.NestingLeft
-    ∷ []
+    ∷ when (has_long_payload state form) reasons.RawTooLong
+    ∷ packet_reasons state form
 
 -- ---- what a line gives a packet
 

@@ -1,7 +1,7 @@
 -- How a refusal is printed.
 use Rattle.std.specs.Prelude.{ℕ, List, [], ◌++◌, Option, Some, None, codes, decimal}
 use Rattle.scenario_text.specs.declared.reason.Reason.{Reason}
-use Rattle.scenario_text.specs.declared.reason.Reason.TheVariants.{UnfinishedLine, BadLine, NumberOutOfRange, LateSetUp, TooMany, NoSuchProducer, NoSuchBuffer, NoSuchWriter, ChunkLargerThanBuffer, ProducerClosed, PacketBegun, NoPacket, NoNesting, NestingLeft, BadField, ReservedField, TooDeep, PacketTooLong, TooManyBytes, PacketLeft}
+use Rattle.scenario_text.specs.declared.reason.Reason.TheVariants.{UnfinishedLine, BadLine, NumberOutOfRange, LateSetUp, TooMany, NoSuchProducer, NoSuchBuffer, NoSuchWriter, ChunkLargerThanBuffer, ProducerClosed, RawTooLong, PacketBegun, NoPacket, NoNesting, NestingLeft, BadField, ReservedField, TooDeep, PacketTooLong, TooManyBytes, PacketLeft}
 
 -- its words
 unfoldable pub reason_words : Reason → List ℕ
@@ -15,6 +15,7 @@ reason_words NoSuchBuffer = codes "no such buffer"
 reason_words NoSuchWriter = codes "no such writer"
 reason_words ChunkLargerThanBuffer = codes "chunk larger than buffer"
 reason_words ProducerClosed = codes "producer closed"
+reason_words RawTooLong = codes "raw too long"
 reason_words PacketBegun = codes "packet begun"
 reason_words NoPacket = codes "no packet"
 reason_words NoNesting = codes "no nesting"

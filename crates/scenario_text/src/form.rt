@@ -53,6 +53,32 @@ pub enum Form {
     CloneBuffer {
         buffer: Numeral,
     },
+    /// `raw W ID COUNT FLAGS B x'HEX'`, and the same with a patch behind it
+    Raw {
+        raw: NamedRaw,
+    },
+}
+
+/// A chunk as a line `raw` names it. The bytes of its payload are read where they are played.
+#[derive(Clone, Copy, Debug, PartialEq, Eq)]
+pub struct NamedRaw {
+    pub writer: Numeral,
+    pub chunk_id: Numeral,
+    pub count: Numeral,
+    pub flags: Numeral,
+    pub buffer: Numeral,
+    /// How many bytes the payload has.
+    pub len: usize,
+    pub patch: Option<NamedPatch>,
+}
+
+/// ` PID OFFSET x'HEX' more`, ` PID OFFSET x'HEX' last`
+#[derive(Clone, Copy, Debug, PartialEq, Eq)]
+pub struct NamedPatch {
+    pub chunk_id: Numeral,
+    pub offset: Numeral,
+    pub bytes: [u8; 4],
+    pub last: bool,
 }
 
 /// What a writer does without a free chunk, as its line names it.

@@ -8,6 +8,7 @@
 mod effects;
 mod fields;
 pub mod form;
+mod hex;
 mod items;
 mod laws;
 mod line_fault;
@@ -20,12 +21,16 @@ mod packet_line;
 pub mod pieces;
 mod playing;
 mod printing;
+mod raw_chunk;
+mod raw_form;
 mod reader;
 pub mod reading;
 mod reason;
 mod refusals;
 mod scenario;
 mod scenario_reader;
+#[cfg(test)]
+mod tests;
 
 pub use laws::{
     lines_spell_trees, scenarios_are_accepted, scenarios_are_in_reach, scenarios_are_set_up,
@@ -35,6 +40,7 @@ pub use line_list::{LineList, LineWalk};
 pub use lines::read_scenario;
 pub use own_lines::{LinesByWriter, OwnWalk};
 pub use printing::refusal_line;
+pub use raw_chunk::{RawChunk, RawHeader, RawPatch};
 pub use reason::{Reason, ScenarioFault};
 pub use scenario::{BufferLine, LineKind, NumberedLine, ProducerLine, Scenario};
 pub use scenario_reader::ScenarioReader;

@@ -8,6 +8,7 @@ ghost use Rattle.scenario_text.specs.Accepted.{is_of, own_kinds, PassesOver};
 ghost use Rattle.scenario_text.specs.declared.scenario.NumberedLine.{NumberedLine};
 
 use crate::own_lines::LinesByWriter;
+use crate::raw_chunk::RawChunk;
 use crate::scenario::{LineKind, NumberedLine};
 use field_tree::Fields;
 use std::alloc::{AllocError, Global};
@@ -16,7 +17,7 @@ use std::marker::Model;
 /// The halves of a limit are counts of this many and of one.
 const HALF: u64 = 1 << 32;
 
-/// What a line has done, where its nodes are the next `len` bytes. A limit stands there in halves, so
+/// What a line has done, where its nodes or its text are the next `len` bytes. A limit stands there in halves, so
 /// that no head is larger for it.
 #[derive(Clone, Copy)]
 pub(crate) enum KeptKind {
@@ -33,6 +34,7 @@ pub(crate) enum KeptKind {
     Read { buffer: u8, high: u32, low: u32 },
     Request,
     CloneBuffer { buffer: u8 },
+    Raw { writer: u16, len: u32 },
 }
 
 #[derive(Clone, Copy)]
@@ -48,6 +50,7 @@ pub(crate) fn own_len(what: KeptKind) -> usize
     match what {
         KeptKind::Packet { writer: _, len } => len as usize,
         KeptKind::Add { writer: _, len } => len as usize,
+        KeptKind::Raw { writer: _, len } => len as usize,
         _ => 0,
     }
 }
@@ -84,42 +87,29 @@ fn part_line<'c>(what: &LineKind<'c>) -> Option<Parted<'c>>
     let own = match what {
         LineKind::Packet { writer: _, fields } => fields.code(),
         LineKind::Add { writer: _, fields } => fields.code(),
+        LineKind::Raw { writer: _, chunk } => chunk.line(),
         _ => &[],
     };
     let len = u32::try_from(own.len()).ok()?;
-    let what = match what {
-        LineKind::Packet { writer, fields: _ } => KeptKind::Packet {
-            writer: *writer,
-            len,
-        },
-        LineKind::Begin { writer } => KeptKind::Begin { writer: *writer },
-        LineKind::Add { writer, fields: _ } => KeptKind::Add {
-            writer: *writer,
-            len,
-        },
-        LineKind::Nest { writer, field } => KeptKind::Nest {
-            writer: *writer,
-            field: *field,
-        },
-        LineKind::Unnest { writer } => KeptKind::Unnest { writer: *writer },
-        LineKind::End { writer } => KeptKind::End { writer: *writer },
-        LineKind::Flush { writer } => KeptKind::Flush { writer: *writer },
-        LineKind::Collect { producer } => KeptKind::Collect {
-            producer: *producer,
-        },
-        LineKind::Scrape { producer } => KeptKind::Scrape {
-            producer: *producer,
-        },
-        LineKind::Close { producer } => KeptKind::Close {
-            producer: *producer,
-        },
+    let what = match *what {
+        LineKind::Packet { writer, fields: _ } => KeptKind::Packet { writer, len },
+        LineKind::Begin { writer } => KeptKind::Begin { writer },
+        LineKind::Add { writer, fields: _ } => KeptKind::Add { writer, len },
+        LineKind::Nest { writer, field } => KeptKind::Nest { writer, field },
+        LineKind::Unnest { writer } => KeptKind::Unnest { writer },
+        LineKind::End { writer } => KeptKind::End { writer },
+        LineKind::Flush { writer } => KeptKind::Flush { writer },
+        LineKind::Collect { producer } => KeptKind::Collect { producer },
+        LineKind::Scrape { producer } => KeptKind::Scrape { producer },
+        LineKind::Close { producer } => KeptKind::Close { producer },
         LineKind::Read { buffer, limit } => KeptKind::Read {
-            buffer: *buffer,
-            high: (*limit / HALF) as u32,
-            low: (*limit % HALF) as u32,
+            buffer,
+            high: (limit / HALF) as u32,
+            low: (limit % HALF) as u32,
         },
         LineKind::Request => KeptKind::Request,
-        LineKind::CloneBuffer { buffer } => KeptKind::CloneBuffer { buffer: *buffer },
+        LineKind::CloneBuffer { buffer } => KeptKind::CloneBuffer { buffer },
+        LineKind::Raw { writer, chunk: _ } => KeptKind::Raw { writer, len },
     };
     Some(Parted { what, own })
 }
@@ -152,6 +142,10 @@ fn join_line(what: KeptKind, own: &[u8]) -> LineKind<'_>
         },
         KeptKind::Request => LineKind::Request,
         KeptKind::CloneBuffer { buffer } => LineKind::CloneBuffer { buffer },
+        KeptKind::Raw { writer, len: _ } => LineKind::Raw {
+            writer,
+            chunk: RawChunk::new(own),
+        },
     }
 }
 

@@ -50,6 +50,7 @@ impl Reader {
     ghost use Rattle.trace_base.specs.declared.numeral.Numeral.TheVariants.{Fits};
     ghost use Rattle.scenario_text.specs.Answers.{LeadsTo};
     ghost use Rattle.scenario_text.specs.Effects.{written};
+    ghost use Rattle.scenario_text.specs.Forms.{form_of};
     ghost use Rattle.scenario_text.specs.Grammar.{after_form};
     ghost use Rattle.scenario_text.specs.Pieces.{fields_part};
     ghost use Rattle.scenario_text.specs.Reasons.{first, front_reasons};
@@ -113,6 +114,7 @@ impl Reader {
     ) -> Result<(), LineFault>
         requires line { length line.now ≤ MAX_INPUT }
         requires fields { found.fields.now ≡ fields_part line.now }
+        requires form { form_of line.now ≡ Some (OfWriter (Fits found.writer) (Packet true)) }
         ensures { LeadsTo (state_of self.new) result (after_form (state_of self.old) number line.now
             (Some (OfWriter (Fits found.entry.writer) (Packet true)))) }
     {

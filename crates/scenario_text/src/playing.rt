@@ -2,10 +2,11 @@
 
 use crate::effects::{first_id, limit, packet_after, policy_of, producer_kind, small, writer_kind};
 use crate::fields::{Addition, read_addition};
-use crate::form::{Form, NamedPolicy, ProducerStep, WriterStep};
+use crate::form::{Form, NamedPolicy, NamedRaw, ProducerStep, WriterStep};
 use crate::items::put_item;
 use crate::line_fault::LineFault;
 use crate::open_packet::OpenPacket;
+use crate::raw_chunk::RawChunk;
 use crate::reader::Reader;
 use crate::reason::Reason;
 use crate::refusals::{len_of, nesting_of};
@@ -17,7 +18,7 @@ use trace_base::policy::{FullPolicy, WriterSpec};
 
 impl Reader {
     ghost use Rattle.std.specs.Prelude.{◌≡◌, ◌+◌, ◌^◌, ◌<◌, ◌≤◌, None, Some, Ok, Err, true, [], length, OnOk, IsOkUnless};
-    ghost use Rattle.scenario_text.specs.declared.form.Form.TheVariants.{Buffer, Producer, Writer, OfWriter, OfProducer, Read, Request, CloneBuffer};
+    ghost use Rattle.scenario_text.specs.declared.form.Form.TheVariants.{Buffer, Producer, Writer, OfWriter, OfProducer, Read, Request, CloneBuffer, Raw};
     ghost use Rattle.scenario_text.specs.declared.line_fault.LineFault.TheVariants.{OutOfMemory};
     ghost use Rattle.scenario_text.specs.declared.scenario.LineKind.TheVariants as kinds;
     ghost use Rattle.scenario_text.specs.Sound.{is_shallow};
@@ -26,6 +27,9 @@ impl Reader {
     ghost use Rattle.scenario_text.specs.Effects.{limit_of, moved, packet_after, producer_kind, served, with_clone, with_closed, with_line, with_packet, written, FieldFits};
     ghost use Rattle.scenario_text.specs.Pieces.{fields_part};
     ghost use Rattle.scenario_text.specs.Ranges.{value};
+    ghost use Rattle.scenario_text.specs.Forms.{form_of};
+    ghost use Rattle.scenario_text.specs.RawForms.{payload_part};
+    ghost use Rattle.scenario_text.specs.RawChunks.{chunk_by};
     ghost use Rattle.scenario_text.specs.Grammar.{after_form};
     ghost use Rattle.scenario_text.specs.Answers.{LeadsTo};
     ghost use Rattle.scenario_text.specs.View.{state_of};
@@ -33,7 +37,7 @@ impl Reader {
     #[tactic(auto, using(crate::proofs::FrontLemmas::kb_small, crate::proofs::FrontLemmas::room_for_buffer), unfolding(crate::specs::Effects::moved))]
     fn add_buffer(&mut self, kb: Numeral, policy: FullPolicy) -> Result<(), LineFault>
         requires { first (front_reasons (state_of self.old) (Buffer kb policy)) ≡ None }
-        ensures ok { OnOk result (state_of self.new ≡ moved (state_of self.old) 0 (Buffer kb policy) []) }
+        ensures ok { OnOk result (state_of self.new ≡ moved (state_of self.old) 0 [] (Buffer kb policy) []) }
         ensures memory { IsOkUnless result OutOfMemory }
     {
         let kb = small(kb);
@@ -49,7 +53,7 @@ impl Reader {
         chunks: Numeral,
     ) -> Result<(), LineFault>
         requires { first (front_reasons (state_of self.old) (Producer pages page_size chunks)) ≡ None }
-        ensures ok { OnOk result (state_of self.new ≡ moved (state_of self.old) 0 (Producer pages page_size chunks) []) }
+        ensures ok { OnOk result (state_of self.new ≡ moved (state_of self.old) 0 [] (Producer pages page_size chunks) []) }
         ensures memory { IsOkUnless result OutOfMemory }
     {
         let line = ProducerLine {
@@ -71,7 +75,7 @@ impl Reader {
         from: Option<Numeral>,
     ) -> Result<(), LineFault>
         requires { first (front_reasons (state_of self.old) (Writer producer buffer policy from)) ≡ None }
-        ensures ok { OnOk result (state_of self.new ≡ moved (state_of self.old) 0 (Writer producer buffer policy from) []) }
+        ensures ok { OnOk result (state_of self.new ≡ moved (state_of self.old) 0 [] (Writer producer buffer policy from) []) }
         ensures memory { IsOkUnless result OutOfMemory }
     {
         let spec = WriterSpec {
@@ -210,9 +214,23 @@ impl Reader {
         Ok(())
     }
 
+    /// A line that asks for a chunk to be committed.
+    #[tactic(auto, using(crate::proofs::FrontLemmas::raw_line, crate::proofs::FrontLemmas::raw_named, crate::proofs::RawLemmas::chunk_is))]
+    fn commit_raw(&mut self, number: u32, line: &[u8], raw: NamedRaw) -> Result<(), LineFault>
+        requires form { form_of line.now ≡ Some (Raw raw) }
+        requires front { first (front_reasons (state_of self.old) (Raw raw)) ≡ None }
+        ensures ok { OnOk result (state_of self.new
+            ≡ with_line (state_of self.old) number (kinds.Raw (value raw.writer) (chunk_by raw (payload_part line.now)))) }
+        ensures memory { IsOkUnless result OutOfMemory }
+    {
+        let writer = small(raw.writer) as u16;
+        let chunk = RawChunk::new(line);
+        self.add_line(number, LineKind::Raw { writer, chunk })
+    }
+
     /// A line of this form.
     #[inline(never)]
-    #[tactic(auto, using(crate::proofs::PlayLemmas::refused_in_front, crate::proofs::PlayLemmas::taken_buffer, crate::proofs::PlayLemmas::taken_producer, crate::proofs::PlayLemmas::taken_writer, crate::proofs::PlayLemmas::taken_step, crate::proofs::PlayLemmas::taken_read, crate::proofs::PlayLemmas::taken_request, crate::proofs::PlayLemmas::taken_clone))]
+    #[tactic(auto, using(crate::proofs::PlayLemmas::refused_in_front, crate::proofs::PlayLemmas::taken_buffer, crate::proofs::PlayLemmas::taken_producer, crate::proofs::PlayLemmas::taken_writer, crate::proofs::PlayLemmas::taken_step, crate::proofs::PlayLemmas::taken_read, crate::proofs::PlayLemmas::taken_request, crate::proofs::PlayLemmas::taken_clone, crate::proofs::PlayLemmas::taken_raw))]
     pub fn play(
         &mut self,
         parser: &mut FieldParser,
@@ -223,6 +241,7 @@ impl Reader {
     ) -> Result<(), LineFault>
         requires line { length line.now ≤ MAX_INPUT }
         requires fields { fields.now ≡ fields_part line.now }
+        requires form { form_of line.now ≡ Some form }
         ensures { LeadsTo (state_of self.new) result (after_form (state_of self.old) number line.now (Some form)) }
     {
         if let Some(reason) = self.front_reason(form) {
@@ -248,6 +267,7 @@ impl Reader {
             Form::Read { buffer, limit } => self.read(number, buffer, limit),
             Form::Request => self.add_line(number, LineKind::Request),
             Form::CloneBuffer { buffer } => self.clone_buffer(number, buffer),
+            Form::Raw { raw } => self.commit_raw(number, line, raw),
         }
     }
 }

@@ -22,6 +22,7 @@ fn reason_words(reason: Reason) -> &'static [u8]
         Reason::NoSuchWriter => b"no such writer",
         Reason::ChunkLargerThanBuffer => b"chunk larger than buffer",
         Reason::ProducerClosed => b"producer closed",
+        Reason::RawTooLong => b"raw too long",
         Reason::PacketBegun => b"packet begun",
         Reason::NoPacket => b"no packet",
         Reason::NoNesting => b"no nesting",

@@ -5,6 +5,7 @@ ghost use Rattle.scenario_text.specs.Forms.{buffer_form, form_of, four_words, lo
 
 use crate::form::{Form, NamedPolicy, ProducerStep, WriterStep};
 use crate::pieces::next_piece;
+use crate::raw_form::raw_words;
 use trace_base::number::numeral;
 use trace_base::numeral::Numeral;
 use trace_base::policy::FullPolicy;
@@ -209,13 +210,18 @@ fn more_words(word: &[u8], second: &[u8], behind: &[u8]) -> Option<Form>
     }
 }
 
-#[tactic(auto, unfolding(crate::specs::Forms::long_form, crate::specs::Forms::with_number))]
+#[tactic(auto, unfolding(crate::specs::Forms::long_form, crate::specs::Forms::with_number, crate::specs::Forms::raw_form))]
 fn long_form(word: &[u8], second: &[u8], behind: &[u8]) -> Option<Form>
     ensures { result ≡ long_form word.now second.now (pieces 32 behind.now) }
 {
     let step = match word {
         b"p" => WriterStep::Packet { has_fields: true },
         b"a" => WriterStep::Add,
+        b"raw" => {
+            return Some(Form::Raw {
+                raw: raw_words(second, behind)?,
+            });
+        }
         _ => return more_words(word, second, behind),
     };
     Some(Form::OfWriter {

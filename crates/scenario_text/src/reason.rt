@@ -21,6 +21,8 @@ pub enum Reason {
     ChunkLargerThanBuffer,
     /// A line of a closed producer or of its writers.
     ProducerClosed,
+    /// The payload of a line `raw` is longer than one of its writer's chunks has.
+    RawTooLong,
     /// A packet is begun where none may be.
     PacketBegun,
     /// No packet is begun where one must be.

@@ -5,18 +5,21 @@ ghost use Rattle.page_geometry.specs.Sizes.{payload_size, record_size};
 ghost use Rattle.scenario_text.specs.Ranges.{fits, is_within, is_page_size, is_chunk_count};
 ghost use Rattle.scenario_text.specs.Sound.{is_cut};
 ghost use Rattle.scenario_text.specs.State.{nesting_of, len_of};
-ghost use Rattle.scenario_text.specs.Reasons.{are_tries, is_limit, is_out_of_range, is_producer_in_range, is_set_up, wants_none, is_larger, is_id};
+ghost use Rattle.scenario_text.specs.Reasons.{are_tries, is_limit, is_out_of_range, is_producer_in_range, is_set_up, wants_none, is_larger, is_id, is_longer};
+ghost use Rattle.scenario_text.specs.RawRanges.{are_patch_numbers, are_raw_numbers};
 
-use crate::form::{Form, MAX_CHUNK_ID, MAX_CLONES, MAX_TRIES, NamedPolicy, WriterStep};
+use crate::form::{
+    Form, MAX_CHUNK_ID, MAX_CLONES, MAX_TRIES, NamedPatch, NamedPolicy, NamedRaw, WriterStep,
+};
 use crate::items::item;
 use crate::open_packet::OpenPacket;
 use crate::reader::Reader;
 use crate::reason::Reason;
 use crate::scenario::{BufferLine, ProducerLine};
-use page_geometry::{CHUNK_COUNTS, Geometry};
+use page_geometry::{CHUNK_COUNTS, Geometry, MAX_FLAGS};
 use trace_base::limits::{
-    BYTES_PER_KB, MAX_BUFFER_KB, MAX_BUFFERS, MAX_NESTING, MAX_PAGE_SIZE, MAX_PAGES, MAX_PRODUCERS,
-    MAX_WRITERS, MIN_BUFFER_KB, PAGE_SIZE_UNIT,
+    BYTES_PER_KB, MAX_BUFFER_KB, MAX_BUFFERS, MAX_FRAGMENTS, MAX_NESTING, MAX_PAGE_SIZE, MAX_PAGES,
+    MAX_PRODUCERS, MAX_WRITERS, MIN_BUFFER_KB, PAGE_SIZE_UNIT,
 };
 use trace_base::numeral::Numeral;
 use trace_base::policy::WriterSpec;
@@ -100,6 +103,31 @@ fn is_id(from: Option<Numeral>) -> bool
     }
 }
 
+#[tactic(auto, unfolding(crate::specs::RawRanges::are_patch_numbers))]
+fn are_patch_numbers(patch: Option<NamedPatch>) -> bool
+    ensures { result ≡ are_patch_numbers patch }
+{
+    match patch {
+        None => true,
+        Some(patch) => {
+            is_within(0, u64::from(MAX_CHUNK_ID), patch.chunk_id)
+                && is_within(0, u64::from(MAX_CHUNK_ID), patch.offset)
+        }
+    }
+}
+
+#[tactic(auto, unfolding(crate::specs::RawRanges::are_raw_numbers))]
+fn are_raw_numbers(raw: NamedRaw) -> bool
+    ensures { result ≡ are_raw_numbers raw }
+{
+    fits(raw.writer)
+        && fits(raw.buffer)
+        && is_within(0, u64::from(MAX_CHUNK_ID), raw.chunk_id)
+        && is_within(0, u64::from(MAX_FRAGMENTS), raw.count)
+        && is_within(0, u64::from(MAX_FLAGS), raw.flags)
+        && are_patch_numbers(raw.patch)
+}
+
 #[tactic(auto, unfolding(crate::specs::Reasons::is_out_of_range))]
 fn is_out_of_range(form: Form) -> bool
     ensures { result ≡ is_out_of_range form }
@@ -124,6 +152,7 @@ fn is_out_of_range(form: Form) -> bool
         Form::Read { buffer, limit } => !(fits(buffer) && is_limit(limit)),
         Form::Request => false,
         Form::CloneBuffer { buffer } => !fits(buffer),
+        Form::Raw { raw } => !are_raw_numbers(raw),
     }
 }
 
@@ -145,6 +174,21 @@ fn record_size(producer: ProducerLine) -> u32
 {
     match Geometry::new(producer.page_size, producer.chunks) {
         Ok(geometry) => geometry.record_size(),
+        Err(_) => unreachable!(),
+    }
+}
+
+/// Whether so many bytes are more than the payload of one of the producer's chunks.
+#[tactic(auto, using(crate::proofs::SoundLemmas::cut_pages, crate::proofs::SoundLemmas::cut_chunks), unfolding(crate::specs::Reasons::is_longer))]
+fn is_longer(len: usize, producer: Option<ProducerLine>) -> bool
+    requires { ForSome producer (λ line. is_cut line ≡ true) }
+    ensures { result ≡ is_longer len producer }
+{
+    let Some(producer) = producer else {
+        return false;
+    };
+    match Geometry::new(producer.page_size, producer.chunks) {
+        Ok(geometry) => (geometry.payload_size() as usize) < len,
         Err(_) => unreachable!(),
     }
 }
@@ -199,7 +243,7 @@ impl Reader {
     ghost use Rattle.scenario_text.specs.Sound.{is_cut};
     ghost use Rattle.scenario_text.specs.State.{is_closed, packet_of, nesting_of};
     ghost use Rattle.scenario_text.specs.View.{state_of};
-    ghost use Rattle.scenario_text.specs.Reasons.{first, front_reasons, has_closed_producer, has_larger_chunks, is_closed_for, is_late, is_too_many, lacks_buffer, lacks_nesting, lacks_packet, lacks_producer, lacks_writer, leaves_nesting, meets_packet};
+    ghost use Rattle.scenario_text.specs.Reasons.{first, front_reasons, has_closed_producer, has_larger_chunks, has_long_payload, is_closed_for, is_late, is_too_many, lacks_buffer, lacks_nesting, lacks_packet, lacks_producer, lacks_writer, leaves_nesting, meets_packet, packet_reasons, producer_of};
 
     #[tactic(auto, unfolding(crate::specs::Reasons::is_late))]
     fn is_late(&self, form: Form) -> bool
@@ -277,6 +321,7 @@ impl Reader {
             Form::Writer { buffer, .. }
             | Form::Read { buffer, .. }
             | Form::CloneBuffer { buffer } => self.buffer(buffer).is_none(),
+            Form::Raw { raw } => self.buffer(raw.buffer).is_none(),
             _ => false,
         }
     }
@@ -287,6 +332,7 @@ impl Reader {
     {
         match form {
             Form::OfWriter { writer, .. } => self.writer(writer).is_none(),
+            Form::Raw { raw } => self.writer(raw.writer).is_none(),
             _ => false,
         }
     }
@@ -322,6 +368,29 @@ impl Reader {
         match form {
             Form::OfWriter { writer, .. } => self.is_closed_for(self.writer(writer)),
             Form::OfProducer { producer, .. } => self.is_closed(producer),
+            Form::Raw { raw } => self.is_closed_for(self.writer(raw.writer)),
+            _ => false,
+        }
+    }
+
+    /// The producer of a writer.
+    #[tactic(auto, unfolding(crate::specs::Reasons::producer_of))]
+    fn producer_of(&self, writer: Option<WriterSpec>) -> Option<ProducerLine>
+        ensures value { result ≡ producer_of (state_of self.now) writer }
+        ensures cut { IfSome result (λ producer. is_cut producer ≡ true) }
+    {
+        match writer {
+            None => None,
+            Some(writer) => self.producer(Numeral::Fits(u64::from(writer.producer))),
+        }
+    }
+
+    #[tactic(auto, unfolding(crate::specs::Reasons::has_long_payload))]
+    fn has_long_payload(&self, form: Form) -> bool
+        ensures { result ≡ has_long_payload (state_of self.now) form }
+    {
+        match form {
+            Form::Raw { raw } => is_longer(raw.len, self.producer_of(self.writer(raw.writer))),
             _ => false,
         }
     }
@@ -372,6 +441,25 @@ impl Reader {
         }
     }
 
+    /// The first reason of what the line's writer has begun.
+    fn packet_reason(&self, form: Form) -> Option<Reason>
+        ensures { result ≡ first (packet_reasons (state_of self.now) form) }
+    {
+        if self.meets_packet(form) {
+            return Some(Reason::PacketBegun);
+        }
+        if self.lacks_packet(form) {
+            return Some(Reason::NoPacket);
+        }
+        if self.lacks_nesting(form) {
+            return Some(Reason::NoNesting);
+        }
+        if self.leaves_nesting(form) {
+            return Some(Reason::NestingLeft);
+        }
+        None
+    }
+
     /// The first reason that doesn't rest on a line's FIELDS.
     #[tactic(auto, unfolding(crate::specs::Reasons::front_reasons))]
     pub fn front_reason(&self, form: Form) -> Option<Reason>
@@ -401,18 +489,9 @@ impl Reader {
         if self.has_closed_producer(form) {
             return Some(Reason::ProducerClosed);
         }
-        if self.meets_packet(form) {
-            return Some(Reason::PacketBegun);
+        if self.has_long_payload(form) {
+            return Some(Reason::RawTooLong);
         }
-        if self.lacks_packet(form) {
-            return Some(Reason::NoPacket);
-        }
-        if self.lacks_nesting(form) {
-            return Some(Reason::NoNesting);
-        }
-        if self.leaves_nesting(form) {
-            return Some(Reason::NestingLeft);
-        }
-        None
+        self.packet_reason(form)
     }
 }

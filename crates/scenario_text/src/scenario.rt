@@ -1,6 +1,7 @@
 //! What a scenario says: its set-up lines, and the lines that are played.
 
 use crate::line_list::LineList;
+use crate::raw_chunk::RawChunk;
 use field_tree::Fields;
 use trace_base::policy::{FullPolicy, WriterSpec};
 
@@ -38,6 +39,8 @@ pub enum LineKind<'c> {
     Request,
     /// A copy of the buffer is made, for a consumer of its own.
     CloneBuffer { buffer: u8 },
+    /// A chunk is committed for the writer's sequence as it stands here.
+    Raw { writer: u16, chunk: RawChunk<'c> },
 }
 
 /// A played line and its place in the text, counted from 1.

@@ -16,7 +16,7 @@ use Rattle.scenario_text.specs.Forms.{with_number, three_words, four_words, buff
 use Rattle.scenario_text.specs.Items.{item}
 use Rattle.scenario_text.specs.Ranges.{fits, value, is_within, is_page_size, is_chunk_count}
 use Rattle.scenario_text.specs.State.{State, beginning}
-use Rattle.scenario_text.specs.Reasons.{refusal_of, front_reasons, back_reasons, given, len_before, are_tries, is_out_of_range, is_producer_in_range, is_late, is_set_up, is_too_many, lacks_producer, lacks_buffer, lacks_writer, is_larger, has_larger_chunks, has_closed_producer, meets_packet, lacks_packet, lacks_nesting, leaves_nesting, is_id}
+use Rattle.scenario_text.specs.Reasons.{refusal_of, front_reasons, back_reasons, given, len_before, are_tries, is_out_of_range, is_producer_in_range, is_late, is_set_up, is_too_many, lacks_producer, lacks_buffer, lacks_writer, is_larger, has_larger_chunks, has_closed_producer, has_long_payload, meets_packet, lacks_packet, lacks_nesting, leaves_nesting, is_id}
 use Rattle.scenario_text.specs.Effects.{policy_of, moved, nodes_given, first_id}
 use Rattle.scenario_text.specs.Grammar.{says_nothing, unless, after_form, after_line}
 use Rattle.workload_gen.specs.Workload.{repeated, set_up_lines}
@@ -45,7 +45,8 @@ with_buffer = record { buffers = buffer_asked ∷ []; producers = []; writers = 
 
 -- a line that says something, and for which no reason holds
 accepted : (state : State) (number : ℕ) (line : List ℕ) (form : Form) → says_nothing line ≡ false → form_of line ≡ Some form
-    → refusal_of state line form ≡ None → after_line state number line ≡ Ok (moved state number form (nodes_given (given state line form)))
+    → refusal_of state line form ≡ None
+    → after_line state number line ≡ Ok (moved state number line form (nodes_given (given state line form)))
 unfolding after_line after_form unless
 accepted state number line form says is none = rw says (rw is (rw none refl))
 
@@ -56,7 +57,7 @@ unfolding form_of_words long_form more_words three_words with_number buffer_form
 buffer_is = refl
 
 buffer_passes : refusal_of beginning (codes "buffer 65536 ring") (Buffer (Fits 65536) Ring) ≡ None
-unfolding refusal_of front_reasons back_reasons given len_before is_out_of_range is_within is_late is_set_up is_too_many lacks_producer lacks_buffer lacks_writer has_larger_chunks has_closed_producer meets_packet lacks_packet lacks_nesting leaves_nesting
+unfolding refusal_of front_reasons back_reasons given len_before is_out_of_range is_within is_late is_set_up is_too_many lacks_producer lacks_buffer lacks_writer has_larger_chunks has_closed_producer has_long_payload meets_packet lacks_packet lacks_nesting leaves_nesting
 buffer_passes = refl
 
 buffer_leads : after_line beginning 1 (codes "buffer 65536 ring") ≡ Ok with_buffer
@@ -70,7 +71,7 @@ unfolding form_of_words long_form more_words four_words with_number producer_for
 producer_is = refl
 
 producer_passes : refusal_of with_buffer (codes "producer 16 4096 14") (Producer (Fits 16) (Fits 4096) (Fits 14)) ≡ None
-unfolding refusal_of front_reasons back_reasons given len_before is_out_of_range is_producer_in_range is_within is_page_size is_chunk_count is_late is_set_up is_too_many lacks_producer lacks_buffer lacks_writer has_larger_chunks has_closed_producer meets_packet lacks_packet lacks_nesting leaves_nesting
+unfolding refusal_of front_reasons back_reasons given len_before is_out_of_range is_producer_in_range is_within is_page_size is_chunk_count is_late is_set_up is_too_many lacks_producer lacks_buffer lacks_writer has_larger_chunks has_closed_producer has_long_payload meets_packet lacks_packet lacks_nesting leaves_nesting
 producer_passes = refl
 
 producer_leads : after_line with_buffer 2 (codes "producer 16 4096 14") ≡ Ok (set_up 0)
@@ -90,7 +91,7 @@ unfolding form_of_words long_form more_words four_words with_number writer_form 
 writer_is = refl
 
 writer_passes : (writers : ℕ) → writers < MAX_WRITERS → refusal_of (set_up writers) (codes "writer 1 1 stall") (Writer (Fits 1) (Fits 1) Stalls None) ≡ None
-unfolding refusal_of front_reasons back_reasons given len_before is_out_of_range are_tries is_id fits is_late is_set_up is_too_many lacks_producer lacks_buffer lacks_writer item is_larger has_larger_chunks payload_size chunk_size has_closed_producer meets_packet lacks_packet lacks_nesting leaves_nesting
+unfolding refusal_of front_reasons back_reasons given len_before is_out_of_range are_tries is_id fits is_late is_set_up is_too_many lacks_producer lacks_buffer lacks_writer item is_larger has_larger_chunks payload_size chunk_size has_closed_producer has_long_payload meets_packet lacks_packet lacks_nesting leaves_nesting
 writer_passes writers few =
     let room : nat_le MAX_WRITERS (length (replicate writers writer_asked)) ≡ false =
     lt-leb MAX_WRITERS (length (replicate writers writer_asked)) (omega (arith, length-replicate writers writer_asked)) in
@@ -99,7 +100,8 @@ writer_passes writers few =
 replicate_push : {X : Type 0} (n : ℕ) (x : X) → replicate n x ++ x ∷ [] ≡ replicate (suc n) x
 replicate_push n x = replicate_more n x ∙ ap (λ (m : ℕ). replicate m x) (add-one n)
 
-one_more : (writers : ℕ) → moved (set_up writers) (writers + 3) (Writer (Fits 1) (Fits 1) Stalls None) [] ≡ set_up (suc writers)
+one_more : (writers : ℕ)
+    → moved (set_up writers) (writers + 3) (codes "writer 1 1 stall") (Writer (Fits 1) (Fits 1) Stalls None) [] ≡ set_up (suc writers)
 unfolding moved policy_of first_id value
 one_more writers =
     let specs = replicate_push writers writer_asked in

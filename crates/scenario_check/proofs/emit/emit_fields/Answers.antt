@@ -1,4 +1,4 @@
-use Rattle.std.proofs.Common.{List, sym, subst}
+use Rattle.std.proofs.Common.{List, subst}
 use Rattle.field_tree.specs.Nodes.{Shown}
 use Rattle.scenario_check.proofs.CallLemmas.{HasTakenNodes, no_node, node_may, node_more, nodes_all}
 use Rattle.scenario_check.proofs.emit.emit_fields.Goals as goal

@@ -1,4 +1,4 @@
-use Rattle.scenario_text.proofs.SpelledLemmas.{scenario_spells_trees}
+use Rattle.scenario_text.proofs.AcceptedLemmas.{scenario_spells_trees}
 use Rattle.scenario_text.proofs.laws.scenarios_spell_trees.Goals as goal
 
 pub returns : goal.returns
