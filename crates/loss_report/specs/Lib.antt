@@ -1,4 +1,5 @@
 pub mod Fields
 pub mod Lines
+pub mod Raws
 pub mod Report
 pub mod Worked

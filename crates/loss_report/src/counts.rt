@@ -1,4 +1,5 @@
 //! What is reported.
+use crate::raws::RawLine;
 use trace_buffer::BufferCounts;
 
 /// What became of the packets that a sequence's writer began: each was delivered, or counts under one
@@ -20,4 +21,6 @@ pub struct Done {
     pub buffers: Vec<BufferCounts>,
     pub sequences: Vec<SequenceCounts>,
     pub flushes: Vec<u64>,
+    /// The answers to lines `raw`, in the order of the lines. A run has none.
+    pub raws: Vec<RawLine>,
 }
