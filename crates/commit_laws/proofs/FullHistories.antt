@@ -1,4 +1,5 @@
--- Over a history of commits whose buffer has bytes enough, and which ends with a read of the closed sequence, each whole packet is delivered.
+-- Over a history of commits whose buffer has bytes enough, and which ends with a read of the closed sequence, each whole packet
+-- is delivered, where the packet check accepts each.
 use Rattle.std.proofs.Common.{◌≡◌, ◌∙◌, ℕ, zero, suc, ◌+◌, ◌-◌, ◌<◌, ◌≤◌, ◌⊎◌, Bool, true, false, ◌||◌, List, [], ◌∷◌, ◌++◌, length, Option, Some, None, refl, sym, ap, subst, arith, inl, inr, length-append}
 use Rattle.std.specs.Prelude.{cond, ◌==◌, find, slice_get, MatchBool}
 use Rattle.std.proofs.lemmas.Bool.{false≢true, eq-eqb, eqb-true}
@@ -9,7 +10,8 @@ use Rattle.trace_model.specs.Reads.{Delivery, delivered_by, delivered_of, is_mar
 use Rattle.trace_model.specs.Row.{Link, horizon, row_from_cursor, slot_from, slots_of}
 use Rattle.trace_model.specs.Sequences.{Cursor, Sequence, above_all, base_of, end_of, has_arrived, is_among, is_known, sequence_in, with_number}
 use Rattle.delivery_laws.specs.Room.{asked, asks}
-use Rattle.delivery_laws.specs.Sheets.{Sheet, SheetsAgree, packets_in}
+use Rattle.delivery_laws.specs.Sheets.{Sheet, SheetsAgree, all_parts, packets_in}
+use Rattle.delivery_laws.proofs.AcceptedParts.{AreAccepted}
 use Rattle.delivery_laws.proofs.AdjacentLemmas.{begin_of, cursor_is, reader_after, row_adjacent}
 use Rattle.delivery_laws.proofs.DeliversAll.{taken}
 use Rattle.delivery_laws.proofs.KnownLemmas.{completes_shows, found_at}
@@ -72,7 +74,8 @@ IsReadLast q packets b [] = ⊥
 IsReadLast q packets b (event ∷ events) =
     ((limit : ℕ) × (event ≡ Read q limit) × ((sequence_in b.sequences q).closed ≡ true) × (packets ≤ limit)) ⊎ IsReadLast q packets (buffer_after b event) events
 
-module _ (sheets : List Sheet) (agree : SheetsAgree false sheets) (drops : (i : ℕ) (sheet : Sheet) → slice_get sheets i ≡ Some sheet → DropsEnd sheet) (q : ℕ) where
+module _ (sheets : List Sheet) (agree : SheetsAgree false sheets) (drops : (i : ℕ) (sheet : Sheet) → slice_get sheets i ≡ Some sheet → DropsEnd sheet)
+    (accepted : AreAccepted (all_parts sheets)) (q : ℕ) where
   -- how many whole packets begin behind the cursor
   abbrev pub ahead : Sequence → ℕ
   ahead s = wholes (packets_in (parts_at sheets s.cursor.chunk_id s.cursor.passed))
@@ -174,7 +177,7 @@ module _ (sheets : List Sheet) (agree : SheetsAgree false sheets) (drops : (i : 
         read : IsFullRead sheets (sequence_in b.sequences q).closed (sequence_in b.sequences q).closed limit (is_marked (sequence_in b.sequences q))
             (passed_by limit (row_from_cursor b (sequence_in b.sequences q))) (left_by limit (row_from_cursor b (sequence_in b.sequences q)))
             (parts_at sheets (sequence_in b.sequences q).cursor.chunk_id (sequence_in b.sequences q).cursor.passed)
-        read = reads_full sheets (sequence_in b.sequences q).closed (sequence_in b.sequences q).closed (λ c. c) (row_from_cursor b (sequence_in b.sequences q)) limit
+        read = reads_full sheets (sequence_in b.sequences q).closed (sequence_in b.sequences q).closed (λ c. c) accepted (row_from_cursor b (sequence_in b.sequences q)) limit
             (is_marked (sequence_in b.sequences q)) (parts_at sheets (sequence_in b.sequences q).cursor.chunk_id (sequence_in b.sequences q).cursor.passed) (full_holds inside)
 
         whole : (sequence_in b.sequences q).closed ≡ true → ahead (sequence_in b.sequences q) ≤ limit → ahead (sequence_in b.sequences q) ≤ length (delivered_by b q limit)

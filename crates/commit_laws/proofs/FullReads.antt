@@ -1,11 +1,13 @@
--- A read of a row in which nothing is missing passes no whole packet that it doesn't deliver.
+-- A read of a row in which nothing is missing passes no whole packet that it doesn't deliver, where the packet check accepts each.
 use Rattle.std.proofs.Common.{◌≡◌, ◌∙◌, ℕ, suc, ◌+◌, ◌-◌, ◌≤◌, Bool, true, false, not, ◌&&◌, ◌||◌, List, [], ◌∷◌, ◌++◌, length, refl, sym, ap, subst, arith}
 use Rattle.std.specs.Prelude.{cond, ◌==◌, filter}
 use Rattle.std.proofs.lemmas.Bool.{false≢true, eqb-true, eqb-false}
 use Rattle.trace_model.specs.Counts.{one_if}
-use Rattle.trace_model.specs.Reads.{delivered_of, delivers, ends, left_by, passed_by, turn_by, turn_of}
+use Rattle.trace_model.specs.Reads.{delivered_of, delivers, ends, is_spoilt, left_by, passed_by, turn_by, turn_of}
 use Rattle.trace_model.specs.Row.{Chain, Fate, Whole, Marked, IntoLost, CutOff, Open, Link, Joined, Gap, Stop, bytes_of}
-use Rattle.delivery_laws.specs.Sheets.{Sheet, Part, WrittenPacket, ends_whole, packets_in, tail_bytes}
+use Rattle.trace_model.specs.Walks.{is_accepted}
+use Rattle.delivery_laws.specs.Sheets.{Sheet, Part, WrittenPacket, all_parts, ends_whole, packets_in, tail_bytes}
+use Rattle.delivery_laws.proofs.AcceptedParts.{AreAccepted, accepted_at, accepted_first}
 use Rattle.commit_laws.proofs.FullRows.{Holds, IsFateOf, IsHeld}
 
 -- how many of these packets were written whole
@@ -31,27 +33,34 @@ first_wholes first parts = by_start first.starts
 
 module _ (sheets : List Sheet) (closed ended : Bool) where
   -- a chain that a read passes is delivered exactly where its packet begins with it and is whole
-  delivered_whole : (chain : Chain) (first : Part) (parts next : List Part) (behind : List Link) → IsHeld sheets closed ended chain first parts next behind
+  delivered_whole : AreAccepted (all_parts sheets) → (chain : Chain) (first : Part) (parts next : List Part) (behind : List Link)
+      → IsHeld sheets closed ended chain first parts next behind
       → ends (turn_of (Joined chain)) ≡ false → delivers (turn_of (Joined chain)) ≡ (first.starts && ends_whole first parts)
-  delivered_whole chain first parts next behind is goes =
-      by_fate chain.fate chain.headless chain.awaits is.fate goes
+  delivered_whole accepted chain first parts next behind is goes =
+      by_fate chain.fate chain.headless chain.awaits (not (is_accepted (bytes_of chain.pieces))) is.fate passes goes
       ∙ ap (λ (b : Bool). b && ends_whole first parts) (sym is.starts)
     where
-      both_false : (a b : Bool) → b ≡ false → false ≡ (a && b)
-      both_false true b h = sym h
-      both_false false b h = refl
+      -- the bytes of a whole chain with its start are a whole packet, which the packet check accepts
+      passes : chain.fate ≡ Whole → chain.headless ≡ false → chain.awaits ≡ false → ends_whole first parts ≡ true → not (is_accepted (bytes_of chain.pieces)) ≡ false
+      passes f h a whole =
+          ap (λ (xs : List ℕ). not (is_accepted xs)) (sym (is.bytes f a))
+          ∙ ap not ((accepted_first first parts (is.starts ∙ ap not h)
+          (subst AreAccepted is.here.0 (accepted_at sheets chain.at.chunk_id chain.at.passed accepted))).0 whole)
 
-      by_fate : (fate : Fate) (headless awaits : Bool) → IsFateOf sheets closed ended fate awaits (ends_whole first parts) (first ∷ parts) → ends (turn_by fate headless awaits) ≡ false
-          → delivers (turn_by fate headless awaits) ≡ (not headless && ends_whole first parts)
-      by_fate Open headless awaits h goes = absurd (false≢true (sym goes))
-      by_fate Whole true awaits h goes = refl
-      by_fate Whole false true h goes = sym h
-      by_fate Whole false false h goes = sym h
-      by_fate Marked true awaits h goes = refl
-      by_fate Marked false awaits h goes = sym h
-      by_fate IntoLost headless awaits h goes = absurd h
-      by_fate CutOff true awaits h goes = refl
-      by_fate CutOff false awaits h goes = sym h.1
+      by_fate : (fate : Fate) (headless awaits refused : Bool) → IsFateOf sheets closed ended fate awaits (ends_whole first parts) (first ∷ parts)
+          → (fate ≡ Whole → headless ≡ false → awaits ≡ false → ends_whole first parts ≡ true → refused ≡ false)
+          → ends (turn_by fate headless (awaits || refused)) ≡ false
+          → delivers (turn_by fate headless (awaits || refused)) ≡ (not headless && ends_whole first parts)
+      by_fate Open headless awaits refused h p goes = absurd (false≢true (sym goes))
+      by_fate Whole true awaits refused h p goes = refl
+      by_fate Whole false true refused h p goes = sym h
+      by_fate Whole false false true h p goes = absurd (false≢true (sym (p refl refl refl h)))
+      by_fate Whole false false false h p goes = sym h
+      by_fate Marked true awaits refused h p goes = refl
+      by_fate Marked false awaits refused h p goes = sym h
+      by_fate IntoLost headless awaits refused h p goes = absurd h
+      by_fate CutOff true awaits refused h p goes = refl
+      by_fate CutOff false awaits refused h p goes = sym h.1
 
   -- what a read of such a row delivers and leaves
   pub record IsFullRead (limit : ℕ) (marked : Bool) (passed left : List Link) (parts : List Part) : Type 0 where
@@ -66,7 +75,7 @@ module _ (sheets : List Sheet) (closed ended : Bool) where
       → (closed ≡ true → wholes (packets_in parts) ≤ limit → wholes (packets_in parts) ≡ 0) → IsFullRead limit marked [] links parts
   passes_none limit marked links parts h all = record { behind = parts; holds = h; count = omega arith; all = all }
 
-  module _ (closes : closed ≡ true → ended ≡ true) where
+  module _ (closes : closed ≡ true → ended ≡ true) (accepted : AreAccepted (all_parts sheets)) where
     pub reads_full : (links : List Link) (limit : ℕ) (marked : Bool) (parts : List Part) → Holds sheets closed ended links parts
         → IsFullRead limit marked (passed_by limit links) (left_by limit links) parts
     reads_full [] limit marked parts h = absurd h
@@ -82,21 +91,21 @@ module _ (sheets : List Sheet) (closed ended : Bool) where
 
         not_open : (fate : Fate) → chain.fate ≡ fate → ends (turn_of (Joined chain)) ≡ true → closed ≡ true → ⊥
         not_open Open e t c = false≢true (sym (subst (λ (f : Fate). IsFateOf sheets closed ended f chain.awaits (ends_whole first parts) (first ∷ parts)) e h.1.fate).0 ∙ c)
-        not_open Whole e t c = goes_on chain.headless chain.awaits (sym (ap (λ (f : Fate). ends (turn_by f chain.headless chain.awaits)) e) ∙ t)
+        not_open Whole e t c = goes_on chain.headless (is_spoilt chain) (sym (ap (λ (f : Fate). ends (turn_by f chain.headless (is_spoilt chain))) e) ∙ t)
           where
             goes_on : (a b : Bool) → ends (turn_by Whole a b) ≡ true → ⊥
             goes_on true b t = false≢true t
             goes_on false true t = false≢true t
             goes_on false false t = false≢true t
-        not_open Marked e t c = goes_on chain.headless (sym (ap (λ (f : Fate). ends (turn_by f chain.headless chain.awaits)) e) ∙ t)
+        not_open Marked e t c = goes_on chain.headless (sym (ap (λ (f : Fate). ends (turn_by f chain.headless (is_spoilt chain))) e) ∙ t)
           where
-            goes_on : (a : Bool) → ends (turn_by Marked a chain.awaits) ≡ true → ⊥
+            goes_on : (a : Bool) → ends (turn_by Marked a (is_spoilt chain)) ≡ true → ⊥
             goes_on true t = false≢true t
             goes_on false t = false≢true t
         not_open IntoLost e t c = subst (λ (f : Fate). IsFateOf sheets closed ended f chain.awaits (ends_whole first parts) (first ∷ parts)) e h.1.fate
-        not_open CutOff e t c = goes_on chain.headless (sym (ap (λ (f : Fate). ends (turn_by f chain.headless chain.awaits)) e) ∙ t)
+        not_open CutOff e t c = goes_on chain.headless (sym (ap (λ (f : Fate). ends (turn_by f chain.headless (is_spoilt chain))) e) ∙ t)
           where
-            goes_on : (a : Bool) → ends (turn_by CutOff a chain.awaits) ≡ true → ⊥
+            goes_on : (a : Bool) → ends (turn_by CutOff a (is_spoilt chain)) ≡ true → ⊥
             goes_on true t = false≢true t
             goes_on false t = false≢true t
 
@@ -121,7 +130,7 @@ module _ (sheets : List Sheet) (closed ended : Bool) where
             (subst (λ (b : Bool). IsFullRead limit marked (Joined chain ∷ passed_by (limit - one_if b) links) (left_by (limit - one_if b) links) (first ∷ parts)) (sym f) (more d f some rest))
           where
             whole : delivers (turn_of (Joined chain)) ≡ (first.starts && ends_whole first parts)
-            whole = delivered_whole chain first parts h.0 links h.1 e
+            whole = delivered_whole accepted chain first parts h.0 links h.1 e
 
             more : (d : Bool) → delivers (turn_of (Joined chain)) ≡ d → (d && (limit == 0)) ≡ false
                 → IsFullRead (limit - one_if d) (not d) (passed_by (limit - one_if d) links) (left_by (limit - one_if d) links) h.0
@@ -166,7 +175,7 @@ module _ (sheets : List Sheet) (closed ended : Bool) where
                 stops (ap (λ (b : Bool). b || (delivers (turn_of (Joined chain)) && (limit == 0))) e ∙ ap (λ (b : Bool). b && (limit == 0)) f ∙ g)
                 (λ shut low.
                 let one : cond {A = ℕ} (first.starts && ends_whole first parts) 1 0 ≡ 1 =
-                ap (λ (b : Bool). cond {A = ℕ} b 1 0) (sym (delivered_whole chain first parts h.0 links h.1 e) ∙ f) in
+                ap (λ (b : Bool). cond {A = ℕ} b 1 0) (sym (delivered_whole accepted chain first parts h.0 links h.1 e) ∙ f) in
                 let c = counted in
                 let none = eqb-true limit 0 g in
                 absurd (omega (arith, c, one, low, none)))

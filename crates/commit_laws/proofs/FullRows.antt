@@ -1,13 +1,13 @@
 -- A row in which nothing is missing: its chains are the packets that were written, and what isn't delivered of them isn't whole.
 use Rattle.std.proofs.Common.{◌≡◌, ◌∙◌, ℕ, zero, suc, ◌<◌, ◌≤◌, max, Bool, true, false, not, ◌&&◌, ◌||◌, List, [], ◌∷◌, ◌++◌, length, drop, Some, refl, sym, ap, subst, arith}
 use Rattle.std.specs.Prelude.{cond, ◌==◌, slice_get}
-use Rattle.std.proofs.lemmas.Bool.{false≢true, and_parts}
+use Rattle.std.proofs.lemmas.Bool.{false≢true, and_parts, or_parts}
 use Rattle.std.proofs.Math.Bool.{and-false, and-true}
 use Rattle.trace_base.proofs.Choices.{more_isnt_none}
 use Rattle.trace_base.proofs.Lists.{one_left}
 use Rattle.trace_model.specs.Fading.{ShowFragments}
 use Rattle.trace_model.specs.Images.{Chunk, Fragment}
-use Rattle.trace_model.specs.Row.{Slot, Here, Gone, Never, Piece, Chain, Fate, Whole, Marked, IntoLost, CutOff, Open, Link, Joined, Gap, Stop, Missing, Partial, Unpatched, joined_to, with_piece, chain_of, place, place_behind, is_last, is_part, chunk_links, row_of}
+use Rattle.trace_model.specs.Row.{Slot, Here, Gone, Never, Piece, Chain, Fate, Whole, Marked, IntoLost, CutOff, Open, Link, Joined, Gap, Stop, Missing, Partial, Unpatched, joined_to, with_piece, chain_of, place, place_behind, is_last, is_part, chunk_links, row_of, bytes_of}
 use Rattle.trace_model.specs.Sequences.{Cursor}
 use Rattle.trace_model.specs.Written.{chains_in}
 use Rattle.trace_model.proofs.CursorLemmas.{Each}
@@ -15,7 +15,7 @@ use Rattle.trace_model.proofs.FadingLemmas.{show_dropped}
 use Rattle.delivery_laws.specs.Sheets.{Sheet, Part, SheetsAgree, all_parts, ends_whole, packets_in, parts_from, tail_bytes}
 use Rattle.delivery_laws.proofs.AdjacentLemmas.{begin_of}
 use Rattle.delivery_laws.proofs.HistoryLemmas.{as_long}
-use Rattle.delivery_laws.proofs.PieceLemmas.{ends_here}
+use Rattle.delivery_laws.proofs.PieceLemmas.{ends_here, no_tail}
 use Rattle.delivery_laws.proofs.RowWalks.{inside_first, parts_next}
 use Rattle.delivery_laws.proofs.Walks.{Follows, Inside, StandsAt, parts_at}
 use Rattle.delivery_laws.proofs.WrittenPackets.{LastGoesOn}
@@ -45,6 +45,7 @@ module _ (sheets : List Sheet) (closed ended : Bool) where
     pub after : packets_in parts ≡ packets_in next
     pub awaits : chain.awaits ≡ true → closed ≡ true
     pub fate : IsFateOf chain.fate chain.awaits (ends_whole first parts) (first ∷ parts)
+    pub bytes : chain.fate ≡ Whole → chain.awaits ≡ false → first.bytes ++ tail_bytes parts ≡ bytes_of chain.pieces
     pub last : chain.fate ≡ Open → chains_in behind ≡ []
 
   -- where the row stops
@@ -76,6 +77,7 @@ module _ (sheets : List Sheet) (closed ended : Bool) where
     starts : first.starts ≡ not headless
     ends : first.ends ≡ not piece.runs_on
     dropped : piece.fragment.dropped ≡ first.dropped
+    bytes : awaits ≡ false → first.bytes ≡ piece.fragment.bytes
     follows : Follows first.ends parts
     stops : piece.fragment.dropped ≡ true → piece.runs_on ≡ false
     waits : awaits ≡ true → (closed ≡ true) × (ends_whole first parts ≡ false)
@@ -90,9 +92,14 @@ module _ (sheets : List Sheet) (closed ended : Bool) where
       after = refl;
       awaits = λ a. (is.waits a).0;
       fate = by_may may refl;
+      bytes = λ w. absurd (not_whole may w);
       last = λ e. ap chains_in stop.none;
     }
       where
+        not_whole : (m : Bool) → cond m Open CutOff ≡ Whole → ⊥
+        not_whole true w = cc
+        not_whole false w = cc
+
         stays : first.ends ≡ false
         stays = is.ends ∙ ap not runs
 
@@ -122,7 +129,7 @@ module _ (sheets : List Sheet) (closed ended : Bool) where
     joined_holds piece next headless awaits first (Stop at why may ∷ links) parts is runs h =
         let into = into_stop piece next headless awaits first at may links parts is runs h in (
           parts,
-          record { here = into.here; starts = into.starts; after = into.after; awaits = into.awaits; fate = into.fate; last = into.last },
+          record { here = into.here; starts = into.starts; after = into.after; awaits = into.awaits; fate = into.fate; bytes = into.bytes; last = into.last },
           h,
         )
     joined_holds piece next headless awaits first (Joined other ∷ links) [] is runs h = absurd h
@@ -150,6 +157,11 @@ module _ (sheets : List Sheet) (closed ended : Bool) where
             awaits = either awaits other.awaits (λ a. (is.waits a).0) h.1.awaits;
             fate = merged_fate other.fate awaits other.awaits (ends_whole first (second ∷ parts)) first second parts (λ a. (is.waits a).1)
                 (subst (λ (w : Bool). IsFateOf other.fate other.awaits w (second ∷ parts)) (sym whole_is) h.1.fate);
+            bytes = λ w a.
+                let none = or_parts awaits other.awaits a in
+                ap (λ (b : Bool). first.bytes ++ cond b [] (second.bytes ++ tail_bytes parts)) no_start
+                ∙ ap (λ (xs : List ℕ). xs ++ (second.bytes ++ tail_bytes parts)) (is.bytes none.0)
+                ∙ ap (λ (xs : List ℕ). piece.fragment.bytes ++ xs) (h.1.bytes w none.1);
             last = h.1.last;
           },
           h.2,
@@ -176,6 +188,9 @@ module _ (sheets : List Sheet) (closed ended : Bool) where
             after = refl;
             awaits = λ a. (is.waits a).0;
             fate = by_drop piece.fragment.dropped refl;
+            bytes = λ w a.
+                ap (λ (xs : List ℕ). xs ++ tail_bytes parts) (is.bytes a)
+                ∙ ap (λ (xs : List ℕ). piece.fragment.bytes ++ xs) (no_tail parts (subst (λ (b : Bool). Follows b parts) ends is.follows));
             last = λ o. absurd (never_open piece.fragment.dropped o);
           },
           h,
@@ -295,6 +310,7 @@ module _ (sheets : List Sheet) (closed ended : Bool) where
               starts = ap (λ (b : Bool). not (b && (k == 0))) (sym is.continues);
               ends = ap (λ (b : Bool). not (b && is_last ws)) (sym is.runs_on) ∙ ap (λ (b : Bool). not (chunk.runs_on && b)) (sym (same_last fs ws h.2));
               dropped = h.0;
+              bytes = λ a. sym (h.1 a);
               follows = onward ws;
               stops = λ d. ap (λ (b : Bool). b && is_last fs) (is.runs_on ∙ (drops_left k is.sheet is.drops (w ∷ ws) e).0 (sym h.0 ∙ d));
               waits = λ a.

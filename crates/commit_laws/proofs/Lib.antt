@@ -11,6 +11,7 @@ pub mod FullHistories
 pub mod FullReads
 pub mod FullRows
 pub mod FullSteps
+pub mod KeptBodies
 pub mod LastFragments
 pub mod LastParts
 pub mod LeftCommits

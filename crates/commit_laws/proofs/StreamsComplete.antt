@@ -1,4 +1,5 @@
--- Where the bytes suffice and the buffer is read at the end, no packet of a stream is absent that was emitted and never dropped.
+-- Where the bytes suffice and the buffer is read at the end, no packet of a stream is absent that was emitted and never dropped, and that the packet
+-- check accepts.
 use Rattle.std.proofs.Common.{◌≡◌, ◌∙◌, ℕ, zero, suc, ◌+◌, ◌*◌, ◌≤◌, Bool, true, false, List, [], ◌∷◌, ◌++◌, length, reverse, Some, refl, sym, ap, subst, arith, length-append, mul-le-mul_right, mul_comm, suc-mul}
 use Rattle.std.specs.Prelude.{cond, ◌==◌, slice_get}
 use Rattle.std.proofs.lemmas.Bool.{false≢true, eqb-true}
@@ -38,6 +39,7 @@ use Rattle.commit_laws.proofs.ExactChains.{exact_chains, page_marks}
 use Rattle.commit_laws.proofs.FullHistories.{delivers_wholes}
 use Rattle.commit_laws.proofs.FullReads.{wholes}
 use Rattle.commit_laws.proofs.FullRows.{DropsEnd}
+use Rattle.commit_laws.proofs.KeptBodies.{stream_accepted}
 use Rattle.commit_laws.proofs.ReadsLast.{read_out}
 use Rattle.commit_laws.proofs.StreamsTold.{own_buffer, stream_committed, stream_left}
 use Rattle.commit_laws.proofs.TellsWholes.{all_told}
@@ -127,14 +129,14 @@ sheets_drop size calls pages cut i sheet there =
     subst DropsEnd same (page_marks size (patches_of pages) i page.0 (full_at size pages i page.0 (cut_full size calls pages cut) page.1))
 
 pub every_stream_is_complete : EveryStreamIsComplete
-every_stream_is_complete size calls pages room policy sequences q record_size events known start is by low out =
+every_stream_is_complete size calls pages room policy sequences q record_size events known start is passes by low out =
     all_told (reverse (packets_of calls)) (packets_in (all_parts sheets)) q (delivered_to q buffer events)
     (calls_are_paired size calls pages is.cut.possible is.cut.cut)
     (calls_in_turn calls is.cut.possible)
     (exact_chains size calls pages is.cut)
     (every_commit_history_tells sheets q record_size room policy sequences events agree known start committed is.accepted)
     (subst (λ (n : ℕ). n ≤ length (delivered_to q buffer events)) at_start
-    (delivers_wholes sheets agree (sheets_drop size calls pages is.cut) q (wholes (packets_in (all_parts sheets))) events buffer [] false
+    (delivers_wholes sheets agree (sheets_drop size calls pages is.cut) (stream_accepted size calls pages is.cut passes) q (wholes (packets_in (all_parts sheets))) events buffer [] false
     (record {
       met = fresh_met sheets q record_size room policy sequences (patches_to q events) known start;
       committed = committed;
@@ -187,11 +189,11 @@ every_stream_is_complete size calls pages room policy sequences q record_size ev
 -- All buffers of a service
 
 pub streams_are_complete : StreamsAreComplete
-streams_are_complete setup buffers place buffer of size calls pages events is by low out =
+streams_are_complete setup buffers place buffer of size calls pages events is passes by low out =
     let own = own_buffer setup buffers place buffer of in
     subst (TellsAt (emissions_of calls) (place + 2) true 0 (kept_places 0 (reverse (packets_of calls))))
     (sym (once_writes (place + 2) events (empty_buffer own.room own.policy own.sequences) (first_buffers setup 1 buffers) own.once))
     (every_stream_is_complete size calls pages own.room own.policy own.sequences (place + 2) own.size events own.known own.start
-    (subst (λ (b : Buffer). IsStreamOf size calls pages (place + 2) b events) own.is is) by
+    (subst (λ (b : Buffer). IsStreamOf size calls pages (place + 2) b events) own.is is) passes by
     (subst (λ (b : Buffer). commits_to b.sequences events * largest_record b.sequences ≤ b.room) own.is low)
     (subst (λ (b : Buffer). IsReadOut (place + 2) b events) own.is out))

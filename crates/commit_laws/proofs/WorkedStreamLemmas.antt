@@ -1,5 +1,5 @@
 -- The worked streams, computed.
-use Rattle.std.proofs.Common.{◌*◌, ◌≤◌, ◌≡◌, ℕ, true, List, [], ◌∷◌, Some, refl, arith}
+use Rattle.std.proofs.Common.{◌*◌, ◌≤◌, ◌≡◌, ℕ, true, List, [], ◌∷◌, reverse, Some, refl, arith}
 use Rattle.std.specs.Prelude.{slice_get}
 use Rattle.std.proofs.lemmas.Bool.{false≢true}
 use Rattle.std.proofs.lemmas.List.Elements.{All-from_recursion}
@@ -11,12 +11,14 @@ use Rattle.trace_model.specs.Cut.{IsWellFormedPage}
 use Rattle.trace_model.specs.Encoding.{number_field, bytes_head, bytes_field}
 use Rattle.trace_model.specs.Record.{content_of, record_of}
 use Rattle.trace_model.specs.History.{Event, state_after}
+use Rattle.trace_model.specs.Packets.{packets_of}
 use Rattle.trace_model.specs.Sequences.{sequence_in}
+use Rattle.trace_model.specs.Walks.{is_refused, is_number, is_accepted}
 use Rattle.trace_model.specs.WorkedRows.{no_limit}
-use Rattle.trace_model.specs.WorkedWriters.{given_up_pages, patched_pages}
+use Rattle.trace_model.specs.WorkedWriters.{given_up_calls, given_up_pages, patched_calls, patched_pages}
 use Rattle.trace_model.proofs.WorkedLemmas.{worked_rows}
 use Rattle.commit_laws.specs.Commits.{commits_in}
-use Rattle.commit_laws.specs.Complete.{IsReadOut, commits_to}
+use Rattle.commit_laws.specs.Complete.{IsReadOut, commits_to, kept_bodies}
 use Rattle.commit_laws.specs.WorkedStreams.{early_buffer, mixed_buffer, read_behind, WorkedEarly, WorkedHeld, WorkedStream, closed_behind, held_events, held_pages, second_first, third_first}
 
 is_read_out : (buffer : Buffer) (commits : List Event) → (sequence_in (state_after buffer (closed_behind commits)).sequences 2).closed ≡ true
@@ -33,7 +35,7 @@ is_read_out buffer commits closed unlimited = record {
 }
 
 pub worked_stream : WorkedStream
-unfolding groups varint tag redundant number_field bytes_head bytes_field
+unfolding groups varint tag redundant number_field bytes_head bytes_field is_accepted is_refused is_number
 worked_stream = record {
   stream = record {
     cut = record { possible = refl; small = omega arith; cut = worked_rows.given_up.cut; ends = refl };
@@ -43,6 +45,7 @@ worked_stream = record {
     behind = (refl, (refl, (refl, tt)));
     lasts = ((λ e. refl), tt);
   };
+  passes = All-from_recursion (λ (body : List ℕ). is_accepted body ≡ true) (kept_bodies (reverse (packets_of given_up_calls))) (refl, (refl, tt));
   by_commits = (omega arith, (omega arith, (omega arith, tt)));
   bytes = omega arith;
   read = is_read_out mixed_buffer (third_first given_up_pages) refl (omega arith);
@@ -51,7 +54,7 @@ worked_stream = record {
 }
 
 pub worked_held : WorkedHeld
-unfolding groups varint tag redundant number_field bytes_head bytes_field content_of record_of
+unfolding groups varint tag redundant number_field bytes_head bytes_field content_of record_of is_accepted is_refused is_number
 worked_held = record {
   possible = refl;
   cut = record {
@@ -79,7 +82,7 @@ worked_held = record {
     none_emitted place packet e = cc
 
 pub worked_early : WorkedEarly
-unfolding groups varint tag redundant number_field bytes_head bytes_field
+unfolding groups varint tag redundant number_field bytes_head bytes_field is_accepted is_refused is_number
 worked_early = record {
   cut = record { possible = refl; small = omega arith; cut = worked_rows.patched.cut; ends = refl };
   each_once = IsPermutation-append_comm (_ ∷ []) (_ ∷ []);
@@ -87,6 +90,7 @@ worked_early = record {
   accepted = ((λ e. refl), ((λ e. refl), tt));
   before = λ behind. false≢true behind.0;
   lasts = ((λ e. refl), tt);
+  passes = All-from_recursion (λ (body : List ℕ). is_accepted body ≡ true) (kept_bodies (reverse (packets_of patched_calls))) (refl, tt);
   by_commits = (omega arith, (omega arith, tt));
   bytes = omega arith;
   read = is_read_out early_buffer (second_first patched_pages) refl (omega arith);

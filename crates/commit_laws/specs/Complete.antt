@@ -1,9 +1,9 @@
 -- When nothing of a stream is absent: the buffer has the bytes for each commit, and is read at the end.
-use Rattle.std.specs.Prelude.{◌≡◌, ℕ, suc, ◌+◌, ◌*◌, ◌≤◌, max, Bool, true, false, List, [], ◌∷◌, ◌++◌, length, if◌then◌else◌}
+use Rattle.std.specs.Prelude.{◌≡◌, ℕ, suc, ◌+◌, ◌*◌, ◌≤◌, max, Bool, true, false, not, ◌&&◌, List, [], ◌∷◌, ◌++◌, length, map, filter, if◌then◌else◌}
 use Rattle.trace_base.specs.declared.limits.TheConstants.{MAX_FRAGMENTS}
 use Rattle.trace_model.specs.Buffers.{Buffer}
 use Rattle.trace_model.specs.History.{Event, Committed, reads_of, state_after}
-use Rattle.trace_model.specs.Packets.{Packet, is_lost}
+use Rattle.trace_model.specs.Packets.{Packet, body_of, is_lost}
 use Rattle.trace_model.specs.Sequences.{Sequence, is_among, is_known, sequence_in}
 use Rattle.trace_model.specs.Tells.{IsTold}
 
@@ -15,6 +15,10 @@ kept_places place (packet ∷ packets) =
     if packet.finished
     then (if is_lost packet then kept_places (suc place) packets else place ∷ kept_places (suc place) packets)
     else kept_places place packets
+
+-- the bodies of those packets that `kept_places` names: they were emitted and never dropped
+abbrev pub kept_bodies : List Packet → List (List ℕ)
+kept_bodies packets = map body_of (filter (λ packet. packet.finished && not (is_lost packet)) packets)
 
 -- The records tell of the emitted packets at these places, of each in a record of its own, and of no others.
 abbrev pub TellsAt : List (List ℕ) → ℕ → Bool → ℕ → List ℕ → List (List ℕ) → Type 0

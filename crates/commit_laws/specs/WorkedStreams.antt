@@ -1,7 +1,7 @@
 -- Worked streams. One meets all that the laws ask: three packets in three chunks, of which the second is given up while a length of it is
 -- open; its third chunk is committed first, and the buffer has just the bytes for three records. Of two others a premise is broken, and what
 -- the laws say of them is false.
-use Rattle.std.specs.Prelude.{◌≡◌, ℕ, ◌*◌, ◌≤◌, true, false, List, [], ◌∷◌, ◌++◌, reverse, IsPermutation}
+use Rattle.std.specs.Prelude.{◌≡◌, ℕ, ◌*◌, ◌≤◌, true, false, List, [], ◌∷◌, ◌++◌, reverse, All, IsPermutation}
 use Rattle.trace_base.specs.declared.policy.FullPolicy.TheVariants.{Ring}
 use Rattle.trace_model.specs.Buffers.{Buffer, empty_buffer}
 use Rattle.trace_model.specs.Calls.{Call, Begun, Number}
@@ -11,11 +11,12 @@ use Rattle.trace_model.specs.Packets.{emissions_of, packets_of, AreCalls}
 use Rattle.trace_model.specs.Pages.{Page, image_of}
 use Rattle.trace_model.specs.Sequences.{fresh}
 use Rattle.trace_model.specs.Tells.{Tells}
+use Rattle.trace_model.specs.Walks.{is_accepted}
 use Rattle.trace_model.specs.WorkedRows.{no_limit}
 use Rattle.trace_model.specs.WorkedWriters.{given_up_calls, given_up_pages, number_page, patched_calls, patched_pages}
 use Rattle.commit_laws.specs.Commits.{AreByCommits, ComesByCommits, LastsComeLast, NoneIsRefused, PatchesComeBehind, commits_in, page_commits}
 use Rattle.commit_laws.specs.CommitHistories.{patches_to}
-use Rattle.commit_laws.specs.Complete.{IsReadOut, TellsAt, commits_to, kept_places, largest_record}
+use Rattle.commit_laws.specs.Complete.{IsReadOut, TellsAt, commits_to, kept_bodies, kept_places, largest_record}
 use Rattle.commit_laws.specs.StreamLaws.{records_in}
 use Rattle.commit_laws.specs.Streams.{IsCompletedCut, IsStreamOf}
 
@@ -57,6 +58,7 @@ mixed_events = read_behind mixed_buffer (third_first given_up_pages)
 -- and only the packet that was given up is absent.
 pub record WorkedStream : Type 0 where
   pub stream : IsStreamOf 2036 given_up_calls given_up_pages 2 mixed_buffer mixed_events
+  pub passes : All (λ (body : List ℕ). is_accepted body ≡ true) (kept_bodies (reverse (packets_of given_up_calls)))
   pub by_commits : AreByCommits mixed_events
   pub bytes : commits_to mixed_buffer.sequences mixed_events * largest_record mixed_buffer.sequences ≤ mixed_buffer.room
   pub read : IsReadOut 2 mixed_buffer mixed_events
@@ -110,6 +112,7 @@ pub record WorkedEarly : Type 0 where
   pub accepted : NoneIsRefused 2 early_buffer early_events
   pub before : PatchesComeBehind [] (commits_in 2 early_events) → ⊥
   pub lasts : LastsComeLast (patches_to 2 early_events)
+  pub passes : All (λ (body : List ℕ). is_accepted body ≡ true) (kept_bodies (reverse (packets_of patched_calls)))
   pub by_commits : AreByCommits early_events
   pub bytes : commits_to early_buffer.sequences early_events * largest_record early_buffer.sequences ≤ early_buffer.room
   pub read : IsReadOut 2 early_buffer early_events

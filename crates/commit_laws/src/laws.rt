@@ -27,8 +27,8 @@ pub fn writers_leave_streams()
     ensures { WritersLeaveStreams }
 {}
 
-/// Where a buffer has the bytes for each commit, and is read at the end, each packet that was emitted
-/// and never dropped is in a record.
+/// Where a buffer has the bytes for each commit, and is read at the end, and the packet check accepts
+/// each packet that was emitted and never dropped, each of these is in a record.
 pub fn every_stream_is_complete()
     ensures { EveryStreamIsComplete }
 {}

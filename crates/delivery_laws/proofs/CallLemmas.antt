@@ -97,7 +97,7 @@ kept_finished (packet ∷ packets) f = step packet.kept (kept_finished packets f
     step false rest = rest
 
 -- a packet that wasn't given up, and is finished, is its body
-bytes_are : (given : Option Text) (finished : Bool) (packet : Packet) (bytes : List ℕ) → is_some given ≡ false → finished ≡ true
+pub bytes_are : (given : Option Text) (finished : Bool) (packet : Packet) (bytes : List ℕ) → is_some given ≡ false → finished ≡ true
     → MatchOption given (MatchBool finished (bytes ≡ body_of packet) (Begins bytes (body_of packet))) (IsGivenUp bytes) → bytes ≡ body_of packet
 bytes_are (Some text) finished packet bytes g f h = absurd (false≢true (sym g))
 bytes_are None true packet bytes g f h = h

@@ -10,12 +10,13 @@ use Rattle.trace_model.specs.Buffers.{Buffer, BufferRecord, is_of, live_at}
 use Rattle.trace_model.specs.Sent.{chunks_of, LastsAre}
 use Rattle.trace_model.specs.Row.{Slot, Here, Gone, Never, slot_from, slots_of, horizon, row_from_cursor}
 use Rattle.trace_model.specs.Reads.{passed_by, left_by, is_marked}
-use Rattle.delivery_laws.specs.Sheets.{Sheet, Part, SheetsAgree, packets_in, sheet_patches}
+use Rattle.delivery_laws.specs.Sheets.{Sheet, Part, SheetsAgree, all_parts, packets_in, sheet_patches}
 use Rattle.delivery_laws.proofs.Walks.{Follows, Walks, parts_at, Inside, StandsAt, FitsFrom}
 use Rattle.delivery_laws.proofs.RowWalks.{row_walks}
 use Rattle.delivery_laws.proofs.IdLemmas.{not_upto}
 use Rattle.delivery_laws.proofs.KnownLemmas.{IsGood, EachOf, HasSheet, IsKnown, Past, IsFound, found_at, good_shows, known_fits, unknown_open, arrived_is, arrived_above, live_is}
 use Rattle.delivery_laws.proofs.RoomLemmas.{has_record, IsRoomy}
+use Rattle.delivery_laws.proofs.AcceptedParts.{AreAccepted, accepted_at}
 use Rattle.delivery_laws.proofs.CleanRows.{NoneDropped, Clean, IsCleanChunk, CleanSlots, row_clean, IsCleanRead, reads_clean}
 
 -- whether a packet runs on into the chunk
@@ -223,12 +224,13 @@ module _ (sheets : List Sheet) (whole : AreWhole sheets) (q come : ℕ) (closed 
   stands_past chunk_id passed parts low (inl at) = ap packets_in (sym at.0 ∙ past_end_parts sheets chunk_id passed low)
   stands_past chunk_id passed parts low (inr none) = absurd none
 
-  pub calm_read : SheetsAgree false sheets → (limit : ℕ)
+  pub calm_read : SheetsAgree false sheets → AreAccepted (all_parts sheets) → (limit : ℕ)
       → IsCleanRead (StandsAt sheets) Nowhere (length sheets) (sequence_in b.sequences q).closed stands_past limit (is_marked (sequence_in b.sequences q))
       (passed_by limit (row_from_cursor b (sequence_in b.sequences q))) (left_by limit (row_from_cursor b (sequence_in b.sequences q)))
       (parts_at sheets (sequence_in b.sequences q).cursor.chunk_id (sequence_in b.sequences q).cursor.passed)
-  calm_read agree limit =
+  calm_read agree accepted limit =
       reads_clean (StandsAt sheets) Nowhere (length sheets) (sequence_in b.sequences q).closed stands_past
       (row_from_cursor b (sequence_in b.sequences q)) limit (is_marked (sequence_in b.sequences q))
       (parts_at sheets (sequence_in b.sequences q).cursor.chunk_id (sequence_in b.sequences q).cursor.passed)
       (calm_walks agree) calm_clean calm.follows
+      (accepted_at sheets (sequence_in b.sequences q).cursor.chunk_id (sequence_in b.sequences q).cursor.passed accepted)

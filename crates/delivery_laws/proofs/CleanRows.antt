@@ -6,10 +6,12 @@ use Rattle.trace_model.specs.Counts.{one_if}
 use Rattle.trace_model.specs.Images.{Chunk, Fragment}
 use Rattle.trace_model.specs.Sequences.{Cursor}
 use Rattle.trace_model.specs.Row.{Slot, Here, Gone, Never, Piece, Chain, Fate, Whole, Marked, CutOff, Open, Link, Joined, Gap, Stop, Missing, Partial, Unpatched, joined_to, with_piece, chain_of, place, place_behind, is_last, is_part, chunk_links, row_of, bytes_of}
-use Rattle.trace_model.specs.Reads.{Turn, Delivers, turn_by, turn_of, delivers, ends, passed_by, left_by, delivered_of}
+use Rattle.trace_model.specs.Reads.{Turn, Delivers, turn_by, turn_of, delivers, ends, passed_by, left_by, delivered_of, is_spoilt}
+use Rattle.trace_model.specs.Walks.{is_accepted}
 use Rattle.trace_model.proofs.CursorLemmas.{Each}
 use Rattle.delivery_laws.specs.Sheets.{Part, WrittenPacket, tail_bytes, ends_whole, packets_in}
 use Rattle.delivery_laws.proofs.Walks.{Follows, is_clear, Walks}
+use Rattle.delivery_laws.proofs.AcceptedParts.{IsAccepted, AreAccepted, accepted_first}
 
 -- nothing is missing in the chain, or it stands open in an open sequence
 abbrev CleanChain : Bool → Chain → Type 0
@@ -230,21 +232,21 @@ module _ (At : ℕ → ℕ → List Part → Type 0) (Over : ℕ → Type 0) (ch
   passes_none limit marked links parts w f all = record { behind = parts; walks = w; follows = f; count = omega arith; all = all }
 
   pub reads_clean : (links : List Link) (limit : ℕ) (marked : Bool) (parts : List Part) → Walks At Over links parts → Clean chunks closed links → Follows true parts
-      → IsCleanRead limit marked (passed_by limit links) (left_by limit links) parts
-  reads_clean [] limit marked parts w c f = absurd w
-  reads_clean (Gap at next lost ∷ links) limit marked parts w c f = absurd c
-  reads_clean (Stop at why may ∷ links) limit marked parts w c f =
+      → AreAccepted parts → IsCleanRead limit marked (passed_by limit links) (left_by limit links) parts
+  reads_clean [] limit marked parts w c f a = absurd w
+  reads_clean (Gap at next lost ∷ links) limit marked parts w c f a = absurd c
+  reads_clean (Stop at why may ∷ links) limit marked parts w c f a =
       passes_none limit marked (Stop at why may ∷ links) parts w f
       (λ shut low. let none = ap (λ (ps : List WrittenPacket). length ps) (ended at.chunk_id at.passed parts (c.1 shut) w) in omega (arith, none))
-  reads_clean (Joined chain ∷ links) limit marked [] w c f = absurd w
-  reads_clean (Joined chain ∷ links) limit marked (first ∷ parts) w c f =
+  reads_clean (Joined chain ∷ links) limit marked [] w c f a = absurd w
+  reads_clean (Joined chain ∷ links) limit marked (first ∷ parts) w c f a =
       by_chain c.0 (λ n ps. reads_clean links n false ps)
     where
-      by_chain : CleanChain closed chain → ((n : ℕ) (ps : List Part) → Walks At Over links ps → Clean chunks closed links → Follows true ps → IsCleanRead n false (passed_by n links) (left_by n links) ps)
+      by_chain : CleanChain closed chain → ((n : ℕ) (ps : List Part) → Walks At Over links ps → Clean chunks closed links → Follows true ps → AreAccepted ps → IsCleanRead n false (passed_by n links) (left_by n links) ps)
           → IsCleanRead limit marked (passed_by limit (Joined chain ∷ links)) (left_by limit (Joined chain ∷ links)) (first ∷ parts)
       by_chain (inr h) rest =
           let stops : (ends (turn_of (Joined chain)) || (delivers (turn_of (Joined chain)) && (limit == 0))) ≡ true =
-          ap (λ (x : Fate). ends (turn_by x chain.headless chain.awaits) || (delivers (turn_by x chain.headless chain.awaits) && (limit == 0))) h.1 in
+          ap (λ (x : Fate). ends (turn_by x chain.headless (is_spoilt chain)) || (delivers (turn_by x chain.headless (is_spoilt chain)) && (limit == 0))) h.1 in
           subst (λ (ls : List Link). IsCleanRead limit marked ls (left_by limit (Joined chain ∷ links)) (first ∷ parts)) (sym (passed_none limit (Joined chain) links stops))
           (subst (λ (ls : List Link). IsCleanRead limit marked [] ls (first ∷ parts)) (sym (left_none limit (Joined chain) links stops))
           (passes_none limit marked (Joined chain ∷ links) (first ∷ parts) w f (λ shut low. absurd (false≢true (sym h.0 ∙ shut)))))
@@ -257,14 +259,23 @@ module _ (At : ℕ → ℕ → List Part → Type 0) (Over : ℕ → Type 0) (ch
               was true k = absurd (false≢true k)
               was false k = refl
 
-          turn : turn_of (Joined chain) ≡ Delivers
-          turn =
-              ap (λ (x : Fate). turn_by x chain.headless chain.awaits) h.0
-              ∙ ap (λ (x : Bool). turn_by Whole x chain.awaits) (started (sym w.1.starts ∙ f))
-              ∙ ap (λ (x : Bool). turn_by Whole false x) h.1
-
           clear : is_clear chain.fate chain.awaits ≡ true
           clear = ap (λ (x : Fate). is_clear x chain.awaits) h.0 ∙ ap not h.1
+
+          accepted : IsAccepted (record { bytes = first.bytes ++ tail_bytes parts; whole = ends_whole first parts }) × AreAccepted parts
+          accepted = accepted_first first parts f a
+
+          unspoilt : is_spoilt chain ≡ false
+          unspoilt =
+              ap (λ (x : Bool). x || not (is_accepted (bytes_of chain.pieces))) h.1
+              ∙ ap (λ (xs : List ℕ). not (is_accepted xs)) (sym (w.1.clear clear).0)
+              ∙ ap not (accepted.0 (w.1.clear clear).1)
+
+          turn : turn_of (Joined chain) ≡ Delivers
+          turn =
+              ap (λ (x : Fate). turn_by x chain.headless (is_spoilt chain)) h.0
+              ∙ ap (λ (x : Bool). turn_by Whole x (is_spoilt chain)) (started (sym w.1.starts ∙ f))
+              ∙ ap (λ (x : Bool). turn_by Whole false x) unspoilt
 
           here : length (packets_in (first ∷ parts)) ≡ suc (length (packets_in w.0))
           here =
@@ -280,7 +291,7 @@ module _ (At : ℕ → ℕ → List Part → Type 0) (Over : ℕ → Type 0) (ch
               (passes_none limit marked (Joined chain ∷ links) (first ∷ parts) w f
               (λ shut low. let none = eqb-true limit 0 z in let long = here in absurd (omega (arith, low, none, long)))))
           by_limit false z =
-              let is = rest (limit - 1) w.0 w.2 c.1 (w.1.clear clear).2 in
+              let is = rest (limit - 1) w.0 w.2 c.1 (w.1.clear clear).2 (subst (Each IsAccepted) w.1.after accepted.1) in
               let more : length (delivered_of marked (Joined chain ∷ passed_by (limit - 1) links)) ≡ suc (length (delivered_of false (passed_by (limit - 1) links))) =
               ap (λ (x : Turn). length (cond (delivers x) (record { body = bytes_of chain.pieces; marked = marked } ∷ delivered_of false (passed_by (limit - 1) links)) (delivered_of true (passed_by (limit - 1) links)))) turn in
               let some : limit ≡ 0 → ⊥ = eqb-false limit 0 z in

@@ -11,7 +11,7 @@ use Rattle.trace_model.specs.Sent.{chunks_of}
 use Rattle.trace_model.specs.Row.{Link, row_from_cursor, slots_of, horizon}
 use Rattle.trace_model.specs.Reads.{passed_by, left_by, is_marked, delivered_by, delivered_of, sequence_after, with_read}
 use Rattle.trace_model.specs.History.{Event, Arrives, ArrivesInPart, Patched, Committed, Closed, Read, event_sequence, after, buffer_after, delivered_to}
-use Rattle.delivery_laws.specs.Sheets.{Sheet, Part, SheetsAgree, packets_in, sheet_patches}
+use Rattle.delivery_laws.specs.Sheets.{Sheet, Part, SheetsAgree, all_parts, packets_in, sheet_patches}
 use Rattle.delivery_laws.specs.Histories.{IsComplete, IsPart}
 use Rattle.delivery_laws.specs.Orders.{InOrder}
 use Rattle.delivery_laws.specs.Room.{asks_for, asks, asked}
@@ -26,6 +26,7 @@ use Rattle.delivery_laws.proofs.HistoryLemmas.{walk_stands, as_long}
 use Rattle.delivery_laws.proofs.CompleteLemmas.{EachCompletes, lasts_behind}
 use Rattle.delivery_laws.proofs.OrderLemmas.{patches_next}
 use Rattle.delivery_laws.proofs.RoomLemmas.{has_record, Grows, event_grows}
+use Rattle.delivery_laws.proofs.AcceptedParts.{AreAccepted}
 use Rattle.delivery_laws.proofs.CleanRows.{IsCleanRead}
 use Rattle.delivery_laws.proofs.CalmLemmas.{AreWhole, Waits, Calm, Nowhere, stands_past, calm_read}
 use Rattle.delivery_laws.proofs.WaitLemmas.{settled_each, patches_wait, arrival_has}
@@ -43,7 +44,7 @@ rest_fits b event events low grows = let next = grows.next in let room = grows.r
 pub taken : (b : Buffer) (event : Event) → is_known b.sequences (event_sequence event) ≡ true → after b event ≡ buffer_after b event
 taken b event known = sym (ap (λ (x : Bool). cond x (after b event) b) known)
 
-module _ (sheets : List Sheet) (agree : SheetsAgree false sheets) (completes : EachCompletes sheets) (whole : AreWhole sheets) (q packets : ℕ) where
+module _ (sheets : List Sheet) (agree : SheetsAgree false sheets) (completes : EachCompletes sheets) (whole : AreWhole sheets) (accepted : AreAccepted (all_parts sheets)) (q packets : ℕ) where
   -- how many packets begin behind the cursor
   abbrev ahead : Sequence → ℕ
   ahead s = length (packets_in (parts_at sheets s.cursor.chunk_id s.cursor.passed))
@@ -355,7 +356,7 @@ module _ (sheets : List Sheet) (agree : SheetsAgree false sheets) (completes : E
       read : IsCleanRead (StandsAt sheets) Nowhere (length sheets) (sequence_in b.sequences q).closed (stands_past sheets whole q come closed later b calm) limit (is_marked (sequence_in b.sequences q))
           (passed_by limit (row_from_cursor b (sequence_in b.sequences q))) (left_by limit (row_from_cursor b (sequence_in b.sequences q)))
           (parts_at sheets (sequence_in b.sequences q).cursor.chunk_id (sequence_in b.sequences q).cursor.passed)
-      read = calm_read sheets whole q come closed later b calm agree limit
+      read = calm_read sheets whole q come closed later b calm agree accepted limit
 
       adjacent : Adjacent (row_from_cursor b (sequence_in b.sequences q))
       adjacent = row_adjacent (sequence_in b.sequences q).closed

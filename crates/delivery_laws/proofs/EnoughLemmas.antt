@@ -28,6 +28,7 @@ use Rattle.delivery_laws.proofs.WrittenPackets.{AreFull, are_full, IsToldBy, she
 use Rattle.delivery_laws.proofs.EmissionLemmas.{record_bytes}
 use Rattle.delivery_laws.proofs.CompleteLemmas.{EachCompletes, each_completes}
 use Rattle.delivery_laws.proofs.OrderLemmas.{every_writer_is_told}
+use Rattle.delivery_laws.proofs.AcceptedBodies.{sheets_accepted}
 use Rattle.delivery_laws.proofs.CalmLemmas.{AreWhole, Calm}
 use Rattle.delivery_laws.proofs.DeliversAll.{delivers_all}
 use Rattle.delivery_laws.proofs.WholeLemmas.{none_goes_on, all_kept, sheets_are_whole}
@@ -77,7 +78,7 @@ follows_start (sheet ∷ sheets) agree = begins sheet.written agree.1
     begins (f ∷ fs) some = ap (λ (b : Bool). not (b && (0 == 0))) agree.0
 
 pub every_packet_is_delivered : EveryPacketIsDelivered
-every_packet_is_delivered size calls pages room policy sequences q record_size events account w finishes low =
+every_packet_is_delivered size calls pages room policy sequences q record_size events account w bodies finishes low =
     let full : AreFull size pages = are_full size pages account.cut.full in
     let goes : newest_goes_on (packets_of calls) ≡ false = none_goes_on (packets_of calls) w in
     let agree : SheetsAgree false (sheets_of false pages) = sheets_agree size false pages full account.cut.flags in
@@ -104,7 +105,8 @@ every_packet_is_delivered size calls pages room policy sequences q record_size e
       follows = subst (λ (c : Cursor). Follows true (parts_at (sheets_of false pages) c.chunk_id c.passed)) (sym cursor) (follows_start (sheets_of false pages) agree);
       over = λ c. absurd (false≢true c);
     } in
-    let all = delivers_all (sheets_of false pages) agree completes whole q (begun_count calls) events (empty_buffer room policy sequences) 0 false [] calm
+    let accepted = sheets_accepted size calls pages account.cut w bodies in
+    let all = delivers_all (sheets_of false pages) agree completes whole accepted q (begun_count calls) events (empty_buffer room policy sequences) 0 false [] calm
     (omega (arith, low)) (omega (arith, ahead, told, chains, kept, turned)) order
     (subst (λ (n : ℕ). Finishes q n (begun_count calls) 0 false events) (sym long) finishes) in
     let most = tells_few (emissions_of calls) q true 0 (map (record_bytes q) (delivered_to q (empty_buffer room policy sequences) events))

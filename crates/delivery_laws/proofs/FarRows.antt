@@ -5,8 +5,9 @@ use Rattle.std.proofs.lemmas.Bool.{false≢true, cases_lt, and_parts, eqb-true}
 use Rattle.trace_model.specs.Images.{Chunk, Fragment}
 use Rattle.trace_model.specs.Sequences.{Cursor}
 use Rattle.trace_model.specs.Counts.{one_if}
-use Rattle.trace_model.specs.Row.{Slot, Here, Gone, Never, Piece, Chain, Fate, Whole, Marked, IntoLost, CutOff, Open, Link, Joined, Gap, Stop, Missing, Partial, Unpatched, joined_to, with_piece, chain_of, place, place_behind, is_last, is_part, chunk_links, row_of}
-use Rattle.trace_model.specs.Reads.{turn_by, turn_of, delivers, ends, passed_by, left_by, count_of}
+use Rattle.trace_model.specs.Row.{Slot, Here, Gone, Never, Piece, Chain, Fate, Whole, Marked, IntoLost, CutOff, Open, Link, Joined, Gap, Stop, Missing, Partial, Unpatched, joined_to, with_piece, chain_of, place, place_behind, is_last, is_part, chunk_links, row_of, bytes_of}
+use Rattle.trace_model.specs.Reads.{turn_by, turn_of, delivers, ends, passed_by, left_by, count_of, is_spoilt}
+use Rattle.trace_model.specs.Walks.{is_accepted}
 use Rattle.model_laws.proofs.PlaceCounts.{count-cons}
 use Rattle.delivery_laws.proofs.AdjacentLemmas.{begin_of, NoneEmpty, row_begins}
 
@@ -18,28 +19,28 @@ Far n (Gap here next lost ∷ links) = Far n links
 Far n (Stop here why may ∷ links) = n ≤ here.chunk_id
 
 -- whether a chain ends a read is said by its fate
-same_end : (fate : Fate) (headless awaits other more : Bool) → ends (turn_by fate headless awaits) ≡ true → ends (turn_by fate other more) ≡ true
-same_end Open headless awaits other more h = refl
-same_end Whole true awaits other more h = absurd (false≢true h)
+same_end : (fate : Fate) (headless spoilt other more : Bool) → ends (turn_by fate headless spoilt) ≡ true → ends (turn_by fate other more) ≡ true
+same_end Open headless spoilt other more h = refl
+same_end Whole true spoilt other more h = absurd (false≢true h)
 same_end Whole false true other more h = absurd (false≢true h)
 same_end Whole false false other more h = absurd (false≢true h)
-same_end Marked true awaits other more h = absurd (false≢true h)
-same_end Marked false awaits other more h = absurd (false≢true h)
-same_end IntoLost true awaits other more h = absurd (false≢true h)
-same_end IntoLost false awaits other more h = absurd (false≢true h)
-same_end CutOff true awaits other more h = absurd (false≢true h)
-same_end CutOff false awaits other more h = absurd (false≢true h)
+same_end Marked true spoilt other more h = absurd (false≢true h)
+same_end Marked false spoilt other more h = absurd (false≢true h)
+same_end IntoLost true spoilt other more h = absurd (false≢true h)
+same_end IntoLost false spoilt other more h = absurd (false≢true h)
+same_end CutOff true spoilt other more h = absurd (false≢true h)
+same_end CutOff false spoilt other more h = absurd (false≢true h)
 
-gap_ends : (lost headless awaits : Bool) → ends (turn_by (cond lost IntoLost CutOff) headless awaits) ≡ true → ⊥
-gap_ends true true awaits h = false≢true h
-gap_ends true false awaits h = false≢true h
-gap_ends false true awaits h = false≢true h
-gap_ends false false awaits h = false≢true h
+gap_ends : (lost headless spoilt : Bool) → ends (turn_by (cond lost IntoLost CutOff) headless spoilt) ≡ true → ⊥
+gap_ends true true spoilt h = false≢true h
+gap_ends true false spoilt h = false≢true h
+gap_ends false true spoilt h = false≢true h
+gap_ends false false spoilt h = false≢true h
 
-own_ends : (dropped headless awaits : Bool) → ends (turn_by (cond dropped Marked Whole) headless awaits) ≡ true → ⊥
-own_ends true true awaits h = false≢true h
-own_ends true false awaits h = false≢true h
-own_ends false true awaits h = false≢true h
+own_ends : (dropped headless spoilt : Bool) → ends (turn_by (cond dropped Marked Whole) headless spoilt) ≡ true → ⊥
+own_ends true true spoilt h = false≢true h
+own_ends true false spoilt h = false≢true h
+own_ends false true spoilt h = false≢true h
 own_ends false false true h = false≢true h
 own_ends false false false h = false≢true h
 
@@ -49,16 +50,16 @@ module _ (n : ℕ) where
   joined_far chain [] far w = absurd far
   joined_far chain (Joined rest ∷ links) far w = step rest.headless
     where
-      before : ((rest.at.chunk_id < n) ⊎ (n ≤ chain.at.chunk_id)) → ends (turn_by rest.fate rest.headless rest.awaits) ≡ true → n ≤ chain.at.chunk_id
+      before : ((rest.at.chunk_id < n) ⊎ (n ≤ chain.at.chunk_id)) → ends (turn_by rest.fate rest.headless (is_spoilt rest)) ≡ true → n ≤ chain.at.chunk_id
       before (inl low) h = let high = far.0 h in absurd (omega (arith, low, high))
       before (inr high) h = high
 
       step : (b : Bool) → Far n (cond b
           (Joined (record chain { next = rest.next; pieces = chain.pieces ++ rest.pieces; awaits = chain.awaits || rest.awaits; fate = rest.fate }) ∷ links)
           (Joined (record chain { fate = CutOff }) ∷ Joined rest ∷ links))
-      step true = ((λ h. before w (same_end rest.fate chain.headless (chain.awaits || rest.awaits) rest.headless rest.awaits h)), far.1)
-      step false = ((λ h. absurd (gap_ends false chain.headless chain.awaits h)), far)
-  joined_far chain (Gap here next lost ∷ links) far w = ((λ h. absurd (gap_ends lost chain.headless chain.awaits h)), far)
+      step true = ((λ h. before w (same_end rest.fate chain.headless ((chain.awaits || rest.awaits) || not (is_accepted (bytes_of (chain.pieces ++ rest.pieces)))) rest.headless (is_spoilt rest) h)), far.1)
+      step false = ((λ h. absurd (gap_ends false chain.headless (is_spoilt chain) h)), far)
+  joined_far chain (Gap here next lost ∷ links) far w = ((λ h. absurd (gap_ends lost chain.headless (is_spoilt chain) h)), far)
   joined_far chain (Stop here why may ∷ links) far (inl low) = absurd (omega (arith, far, low))
   joined_far chain (Stop here why may ∷ links) far (inr high) = ((λ h. high), far)
 
@@ -69,7 +70,7 @@ module _ (n : ℕ) where
       step : (b : Bool) → (piece.runs_on && not piece.fragment.dropped) ≡ b
           → Far n (cond b (joined_to (chain_of piece next headless awaits) links) (Joined (chain_of piece next headless awaits) ∷ links))
       step true e = joined_far (chain_of piece next headless awaits) links far (w (and_parts piece.runs_on (not piece.fragment.dropped) e).0)
-      step false e = ((λ h. absurd (own_ends piece.fragment.dropped headless awaits h)), far)
+      step false e = ((λ h. absurd (own_ends piece.fragment.dropped headless (awaits || not (is_accepted (bytes_of (piece ∷ [])))) h)), far)
 
   module _ (closed : Bool) (chunk_id : ℕ) (chunk : Chunk) (rest : List Link) where
     chunk_far : (fragments : List Fragment) (passed : ℕ) → Far n rest → (chunk.runs_on ≡ true → ((begin_of rest).chunk_id < n) ⊎ (n ≤ chunk_id))

@@ -1,3 +1,5 @@
+pub mod AcceptedBodies
+pub mod AcceptedParts
 pub mod AdjacentLemmas
 pub mod AskLemmas
 pub mod CallLemmas

@@ -7,6 +7,7 @@ use Rattle.std.proofs.Math.Seq.{drop-append_seam}
 use Rattle.trace_model.specs.Counts.{one_if}
 use Rattle.trace_model.specs.Row.{Fate, Whole, Marked, IntoLost, CutOff, Open, Chain, Link, Joined, Gap, Stop, bytes_of}
 use Rattle.trace_model.specs.Reads.{turn_by, turn_of, delivers, ends, passed_by, left_by, Delivery, delivered_of, missing_after}
+use Rattle.trace_model.specs.Walks.{is_accepted}
 use Rattle.delivery_laws.specs.Sheets.{Part, WrittenPacket, tail_bytes, ends_whole, packets_in}
 use Rattle.delivery_laws.specs.Histories.{AreTold}
 use Rattle.delivery_laws.proofs.Walks.{Follows, is_clear, IsChain, Walks}
@@ -126,21 +127,22 @@ delivered_on At packets marked first next chain part parts behind is c clear hea
       };
     }
 
--- a link that is delivered is a whole chain with its start, which awaits nothing
+-- a link that is delivered is a whole chain with its start, which awaits nothing, whatever else may spoil it
 delivered_clear : (chain : Chain) → delivers (turn_of (Joined chain)) ≡ true → (is_clear chain.fate chain.awaits ≡ true) × (chain.headless ≡ false)
-delivered_clear chain = by_fate chain.fate chain.headless chain.awaits
+delivered_clear chain = by_fate chain.fate chain.headless chain.awaits (not (is_accepted (bytes_of chain.pieces)))
   where
-    by_fate : (fate : Fate) (headless awaits : Bool) → delivers (turn_by fate headless awaits) ≡ true → (is_clear fate awaits ≡ true) × (headless ≡ false)
-    by_fate Open headless awaits h = absurd (false≢true h)
-    by_fate Whole true awaits h = absurd (false≢true h)
-    by_fate Whole false true h = absurd (false≢true h)
-    by_fate Whole false false h = (refl, refl)
-    by_fate Marked true awaits h = absurd (false≢true h)
-    by_fate Marked false awaits h = absurd (false≢true h)
-    by_fate IntoLost true awaits h = absurd (false≢true h)
-    by_fate IntoLost false awaits h = absurd (false≢true h)
-    by_fate CutOff true awaits h = absurd (false≢true h)
-    by_fate CutOff false awaits h = absurd (false≢true h)
+    by_fate : (fate : Fate) (headless awaits refused : Bool) → delivers (turn_by fate headless (awaits || refused)) ≡ true
+        → (is_clear fate awaits ≡ true) × (headless ≡ false)
+    by_fate Open headless awaits refused h = absurd (false≢true h)
+    by_fate Whole true awaits refused h = absurd (false≢true h)
+    by_fate Whole false true refused h = absurd (false≢true h)
+    by_fate Whole false false refused h = (refl, refl)
+    by_fate Marked true awaits refused h = absurd (false≢true h)
+    by_fate Marked false awaits refused h = absurd (false≢true h)
+    by_fate IntoLost true awaits refused h = absurd (false≢true h)
+    by_fate IntoLost false awaits refused h = absurd (false≢true h)
+    by_fate CutOff true awaits refused h = absurd (false≢true h)
+    by_fate CutOff false awaits refused h = absurd (false≢true h)
 
 module _ (At : ℕ → ℕ → List Part → Type 0) (Over : ℕ → Type 0) (packets : List WrittenPacket) (more : List Delivery) where
   -- wherever the read ends, what comes behind it is told

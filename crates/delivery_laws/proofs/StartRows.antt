@@ -9,7 +9,7 @@ use Rattle.trace_model.specs.Images.{Chunk}
 use Rattle.trace_model.specs.Sequences.{Cursor}
 use Rattle.trace_model.specs.Counts.{one_if}
 use Rattle.trace_model.specs.Row.{Slot, Here, Gone, Never, Fate, Whole, Marked, IntoLost, CutOff, Open, Link, Joined, Gap, Stop, Missing, Partial, place, is_part, row_of}
-use Rattle.trace_model.specs.Reads.{turn_by, turn_of, delivers, ends, passed_by, left_by}
+use Rattle.trace_model.specs.Reads.{turn_by, turn_of, delivers, ends, passed_by, left_by, is_spoilt}
 use Rattle.trace_model.specs.RowLaws.{Before, UpTo, Rises}
 use Rattle.trace_model.specs.Causes.{Fixed, Outcome, is_same_place, outcome_at, fixed_by_turn, fixed_by_link}
 use Rattle.trace_model.proofs.CursorLemmas.{up_to_up_to, before_then, same_up_to, not_both}
@@ -122,15 +122,15 @@ start_behind at c (Gap here next lost ∷ links) a r h =
 start_behind at c (Stop here why may ∷ links) a r h = h
 
 -- what is passed of a chain with its start is fixed
-turn_fixes : (at : Cursor) (fate : Fate) (headless awaits : Bool) → headless ≡ false → ends (turn_by fate headless awaits) ≡ false
-    → IsFixed at (fixed_by_turn at (turn_by fate headless awaits))
-turn_fixes at fate true awaits h e = absurd (false≢true (sym h))
-turn_fixes at Open false awaits h e = absurd (false≢true (sym e))
+turn_fixes : (at : Cursor) (fate : Fate) (headless spoilt : Bool) → headless ≡ false → ends (turn_by fate headless spoilt) ≡ false
+    → IsFixed at (fixed_by_turn at (turn_by fate headless spoilt))
+turn_fixes at fate true spoilt h e = absurd (false≢true (sym h))
+turn_fixes at Open false spoilt h e = absurd (false≢true (sym e))
 turn_fixes at Whole false true h e = fixed_here at _ []
 turn_fixes at Whole false false h e = fixed_here at _ []
-turn_fixes at Marked false awaits h e = fixed_here at _ []
-turn_fixes at IntoLost false awaits h e = fixed_here at _ []
-turn_fixes at CutOff false awaits h e = fixed_here at _ []
+turn_fixes at Marked false spoilt h e = fixed_here at _ []
+turn_fixes at IntoLost false spoilt h e = fixed_here at _ []
+turn_fixes at CutOff false spoilt h e = fixed_here at _ []
 
 pub read_fixes : (at : Cursor) (links : List Link) (c : Cursor) (limit : ℕ) → Adjacent links → Rises c links → HasStart at links
     → Before at (begin_of (left_by limit links)) → IsFixed at (flat_map fixed_by_link (passed_by limit links))
@@ -155,7 +155,7 @@ read_fixes at (Joined chain ∷ links) c limit a r h before =
         by_start (inl is) =
             fixed_first at (fixed_by_turn chain.at (turn_of (Joined chain))) (flat_map fixed_by_link (passed_by (limit - one_if (delivers (turn_of (Joined chain)))) links))
             (subst (λ (n : Cursor). IsFixed n (fixed_by_turn chain.at (turn_of (Joined chain)))) is.0
-            (turn_fixes chain.at chain.fate chain.headless chain.awaits is.1 f))
+            (turn_fixes chain.at chain.fate chain.headless (is_spoilt chain) is.1 f))
         by_start (inr there) =
             fixed_behind at (fixed_by_turn chain.at (turn_of (Joined chain))) (flat_map fixed_by_link (passed_by (limit - one_if (delivers (turn_of (Joined chain)))) links))
             (later there before)

@@ -113,7 +113,7 @@ unmarked_zip size [] (c ∷ cs) w z = absurd z
 unmarked_zip size (p ∷ ps) [] w z = absurd z
 unmarked_zip size (p ∷ ps) (c ∷ cs) w z = (z.0.marked ∙ ap (λ (o : Option Text). is_some o) w.1, unmarked_zip size ps cs w.3 z.1)
 
-pub each_reversed : (P : Chain → Type 0) (xs : List Chain) → Each P xs → Each P (reverse xs)
+pub each_reversed : {X : Type 0} (P : X → Type 0) (xs : List X) → Each P xs → Each P (reverse xs)
 each_reversed P [] h = tt
 each_reversed P (x ∷ xs) h = subst (Each P) (sym (reverse-append (x ∷ []) xs)) (each-append P (reverse xs) (x ∷ []) (each_reversed P xs h.1) (h.0, tt))
 

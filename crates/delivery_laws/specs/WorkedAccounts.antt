@@ -1,13 +1,14 @@
 -- A worked account that meets all that the law on writers asks for: three packets in three chunks, of which the second is given
 -- up while a length of it is open. A scrape brings the first packet before its chunk is complete.
-use Rattle.std.specs.Prelude.{◌≡◌, ℕ, ◌≤◌, ◌==◌, true, false, List, [], ◌∷◌, ◌++◌, length, if◌then◌else◌}
+use Rattle.std.specs.Prelude.{◌≡◌, ℕ, ◌≤◌, ◌==◌, true, false, List, [], ◌∷◌, ◌++◌, length, All, if◌then◌else◌}
 use Rattle.trace_model.specs.Images.{first_fragments}
 use Rattle.trace_model.specs.Pages.{Page, chunk_of}
 use Rattle.trace_model.specs.Sequences.{Sequence, fresh}
 use Rattle.trace_model.specs.Buffers.{empty_buffer}
 use Rattle.trace_base.specs.declared.policy.FullPolicy.TheVariants.{Ring}
 use Rattle.trace_model.specs.History.{Event, ArrivesInPart, Read, delivered_to}
-use Rattle.trace_model.specs.Packets.{packets_of, begun_count}
+use Rattle.trace_model.specs.Packets.{packets_of, bodies_of, begun_count}
+use Rattle.trace_model.specs.Walks.{is_accepted}
 use Rattle.trace_model.specs.WorkedWriters.{patched_calls, patched_pages, given_up_calls, given_up_pages}
 use Rattle.trace_model.specs.WorkedRows.{no_limit, taken, ended}
 use Rattle.delivery_laws.specs.DeliveryLaws.{IsAccountOf}
@@ -52,6 +53,7 @@ two_chunks sequence = if sequence == 2 then 2 else 0
 pub record WorkedEnough : Type 0 where
   pub account : IsAccountOf 284 patched_calls patched_pages small_sequences 2 304 finished_events
   pub whole : AllWhole (packets_of patched_calls)
+  pub accepted : All (λ (body : List ℕ). is_accepted body ≡ true) (bodies_of patched_calls)
   pub finishes : Finishes 2 (length patched_pages) (begun_count patched_calls) 0 false finished_events
   pub bytes : asked (empty_buffer 608 Ring small_sequences) finished_events ≤ 608
   pub below : EachBelow two_chunks small_sequences finished_events

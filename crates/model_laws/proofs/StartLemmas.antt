@@ -11,7 +11,7 @@ use Rattle.trace_model.specs.Buffers.{Buffer, BufferRecord, is_of, live_at, meet
 use Rattle.trace_model.specs.Arrivals.{Arrived, Kept, Rewritten, Duplicate, Discarded, TooFar, BadChunk, arrival_of, partial_arrival_of, settled, with_arrival, once_read, with_image, with_rewritten, discarded_buffer}
 use Rattle.trace_model.specs.Patches.{with_patch, with_patches, awaits_at, closed_buffer}
 use Rattle.trace_model.specs.Row.{Slot, Here, Gone, Never, Piece, Chain, Fate, Whole, Marked, IntoLost, CutOff, Open, Link, Joined, Gap, Stop, Partial, Unpatched, joined_to, with_piece, place, is_last, is_part, place_behind, chunk_links, row_of, slot_from, slots_of, horizon, row_from_cursor}
-use Rattle.trace_model.specs.Reads.{turn_by, turn_of, delivers, ends, passed_by}
+use Rattle.trace_model.specs.Reads.{turn_by, turn_of, delivers, ends, passed_by, is_spoilt}
 use Rattle.trace_model.specs.Counts.{one_if}
 use Rattle.trace_model.specs.History.{Event, Arrives, ArrivesInPart, Patched, Committed, Closed, Read, event_sequence, after}
 use Rattle.trace_model.specs.Causes.{Fixed, fixed_by_turn, fixed_by_link, places_from, starts_among, unread_start_places, lost_at, fixed_by_loss, fixed_by_arrival, fixed_once_read, fixed_by, fixed_after}
@@ -126,18 +126,18 @@ starts_row pages false (Never ∷ slots) chunk_id passed of = tt
 abbrev pub AtStarts : List Page → List Fixed → Type 0
 AtStarts pages fixed = Each (λ (f : Fixed). IsStart pages f.at) fixed
 
-starts_turn : (pages : List Page) (at : Cursor) (fate : Fate) (headless awaits : Bool) → (headless ≡ false → IsStart pages at)
-    → AtStarts pages (fixed_by_turn at (turn_by fate headless awaits))
-starts_turn pages at Open headless awaits p = tt
-starts_turn pages at Whole true awaits p = tt
+starts_turn : (pages : List Page) (at : Cursor) (fate : Fate) (headless spoilt : Bool) → (headless ≡ false → IsStart pages at)
+    → AtStarts pages (fixed_by_turn at (turn_by fate headless spoilt))
+starts_turn pages at Open headless spoilt p = tt
+starts_turn pages at Whole true spoilt p = tt
 starts_turn pages at Whole false true p = (p refl, tt)
 starts_turn pages at Whole false false p = (p refl, tt)
-starts_turn pages at Marked true awaits p = tt
-starts_turn pages at Marked false awaits p = (p refl, tt)
-starts_turn pages at IntoLost true awaits p = tt
-starts_turn pages at IntoLost false awaits p = (p refl, tt)
-starts_turn pages at CutOff true awaits p = tt
-starts_turn pages at CutOff false awaits p = (p refl, tt)
+starts_turn pages at Marked true spoilt p = tt
+starts_turn pages at Marked false spoilt p = (p refl, tt)
+starts_turn pages at IntoLost true spoilt p = tt
+starts_turn pages at IntoLost false spoilt p = (p refl, tt)
+starts_turn pages at CutOff true spoilt p = tt
+starts_turn pages at CutOff false spoilt p = (p refl, tt)
 
 starts_passed : (pages : List Page) (links : List Link) (limit : ℕ) → EachStart (IsStart pages) links
     → AtStarts pages (flat_map fixed_by_link (passed_by limit links))
@@ -153,7 +153,7 @@ starts_passed pages (Joined chain ∷ links) limit s =
     step true k = tt
     step false k = each-append (λ (f : Fixed). IsStart pages f.at) (fixed_by_turn chain.at (turn_of (Joined chain)))
         (flat_map fixed_by_link (passed_by (limit - one_if (delivers (turn_of (Joined chain)))) links))
-        (starts_turn pages chain.at chain.fate chain.headless chain.awaits s.0) k
+        (starts_turn pages chain.at chain.fate chain.headless (is_spoilt chain) s.0) k
 
 -- Live records
 

@@ -43,5 +43,5 @@ tables_begin_as_accounts setup small =
           (newcomer_cut (payload_at setup place) place (small place (omega (arith, inside, many))));
       begun = λ place inside. subst (λ (view : WriterView). length view.begun ≡ length (completed_images view.begun) + 0)
           (sym (all_same newcomer setup.writers place)) refl;
-      order = λ place inside. refl;
+      order = λ place inside none. refl;
     }

@@ -30,11 +30,11 @@ use Rattle.delivery_laws.proofs.OrderLemmas.{every_writer_is_told}
 use Rattle.chunk_plain.specs.Setup.{Setup, size_of, no_writer}
 use Rattle.chunk_plain.specs.Drafts.{IsFound}
 use Rattle.chunk_plain.specs.Views.{At, Content, Completed, Committed, WriterView, newcomer, Found, Look, Noted, Arrive, Partial, Patched, Closed, Read, Commit, ServiceView, taken_of}
-use Rattle.chunk_plain.specs.World.{writer}
+use Rattle.chunk_plain.specs.World.{World, writer}
 use Rattle.chunk_plain.specs.Histories as histories
 use Rattle.chunk_plain.specs.Histories.{content_at, found_among, once_read, happened, history_of}
 use Rattle.world_model.specs.FirstBuffers.{BufferSpec, payload_at, first_buffers}
-use Rattle.world_model.specs.Accounts.{all_images, HasCut, IsScraped, InOrder}
+use Rattle.world_model.specs.Accounts.{all_images, HasCut, IsScraped, InOrder, IsAccount}
 use Rattle.world_model.specs.AccountLaws.{EveryAccountIsFaithful}
 use Rattle.world_model.proofs.ProjectLemmas.{Without, once_writes, without_writes, all_mine}
 use Rattle.world_model.proofs.MakingLemmas.{IsOnce, in_one, only_writers}
@@ -242,32 +242,40 @@ module _ (size place : ℕ) (view : WriterView) (held : List Image) (cut : HasCu
       → Tells (emissions_of view.calls) q (records_of q (records_after (first_buffers setup 1 buffers) (history_of service)))
   told_of setup buffers spec get order = told_by setup buffers spec get (history_of service) (order_events service.events 0 false [] order)
 
-pub every_account_is_faithful : EveryAccountIsFaithful
-every_account_is_faithful setup buffers world account = record { known = known; told = tells }
-  where
-    known : All (λ (d : Delivered). (2 ≤ d.sequence) × (d.sequence < length (map (λ (view : WriterView). emissions_of view.calls) world.writers) + 2))
-        (records_after (first_buffers setup 1 buffers) (history_of world.service))
-    known =
-        subst (λ (n : ℕ). All (λ (d : Delivered). (2 ≤ d.sequence) × (d.sequence < n + 2)) (records_after (first_buffers setup 1 buffers) (history_of world.service)))
-        (sym account.writers ∙ sym (length-map world.writers (λ (view : WriterView). emissions_of view.calls)))
-        (all_mine (λ s. (2 ≤ s) × (s < length setup.writers + 2)) (history_of world.service) (first_buffers setup 1 buffers) (only_writers setup 1 buffers))
+-- each record is of a writer's sequence
+pub account_known : (setup : Setup) (buffers : List BufferSpec) (world : World) → IsAccount setup world
+    → All (λ (d : Delivered). (2 ≤ d.sequence) × (d.sequence < length (map (λ (view : WriterView). emissions_of view.calls) world.writers) + 2))
+    (records_after (first_buffers setup 1 buffers) (history_of world.service))
+account_known setup buffers world account =
+    subst (λ (n : ℕ). All (λ (d : Delivered). (2 ≤ d.sequence) × (d.sequence < n + 2)) (records_after (first_buffers setup 1 buffers) (history_of world.service)))
+    (sym account.writers ∙ sym (length-map world.writers (λ (view : WriterView). emissions_of view.calls)))
+    (all_mine (λ s. (2 ≤ s) × (s < length setup.writers + 2)) (history_of world.service) (first_buffers setup 1 buffers) (only_writers setup 1 buffers))
 
-    tells : (place : ℕ) (packets : List (List ℕ)) → slice_get (map (λ (view : WriterView). emissions_of view.calls) world.writers) place ≡ Some packets
-        → Tells packets (place + 2) (records_of (place + 2) (records_after (first_buffers setup 1 buffers) (history_of world.service)))
-    tells place packets e =
-        let many = length-map world.writers (λ (view : WriterView). emissions_of view.calls) in
-        let low = slice_get_within (map (λ (view : WriterView). emissions_of view.calls) world.writers) place packets e in
-        let inside : place < length world.writers = omega (arith, low, many) in
-        let view : WriterView = writer world place in
-        let there = slice_get-get_or world.writers place newcomer inside in
-        let same : emissions_of view.calls ≡ packets =
-        same_Some (emissions_of view.calls) packets
-        (sym (slice_get-map (λ (v : WriterView). emissions_of v.calls) world.writers place ∙ ap (option_map (λ (v : WriterView). emissions_of v.calls)) there) ∙ e) in
-        let writers = account.writers in
-        let spec : WriterSpec = get_or setup.writers place no_writer in
-        let get = slice_get-get_or setup.writers place no_writer (omega (arith, inside, writers)) in
-        let counts = account.owned.counts place in
-        subst (λ (ps : List (List ℕ)). Tells ps (place + 2) (records_of (place + 2) (records_after (first_buffers setup 1 buffers) (history_of world.service)))) same
-        (told_of (payload_at setup place) place view (account.held place) (account.cuts place inside) world.service
-        counts.learnt (λ n chunk content at. (counts.named n chunk content at).0) (λ n look found at is. (account.owned.looks n look found at is).0)
-        setup buffers spec get (account.order place inside))
+-- and those of a sequence that was noted in order tell of what its writer emitted
+pub account_tells : (setup : Setup) (buffers : List BufferSpec) (world : World) (account : IsAccount setup world) (place : ℕ) (packets : List (List ℕ))
+    → (place < length world.writers → InOrder (all_images (writer world place) (account.held place)) world.service (place + 2) 0 false [] world.service.events)
+    → slice_get (map (λ (view : WriterView). emissions_of view.calls) world.writers) place ≡ Some packets
+    → Tells packets (place + 2) (records_of (place + 2) (records_after (first_buffers setup 1 buffers) (history_of world.service)))
+account_tells setup buffers world account place packets order e =
+    let many = length-map world.writers (λ (view : WriterView). emissions_of view.calls) in
+    let low = slice_get_within (map (λ (view : WriterView). emissions_of view.calls) world.writers) place packets e in
+    let inside : place < length world.writers = omega (arith, low, many) in
+    let view : WriterView = writer world place in
+    let there = slice_get-get_or world.writers place newcomer inside in
+    let same : emissions_of view.calls ≡ packets =
+    same_Some (emissions_of view.calls) packets
+    (sym (slice_get-map (λ (v : WriterView). emissions_of v.calls) world.writers place ∙ ap (option_map (λ (v : WriterView). emissions_of v.calls)) there) ∙ e) in
+    let writers = account.writers in
+    let spec : WriterSpec = get_or setup.writers place no_writer in
+    let get = slice_get-get_or setup.writers place no_writer (omega (arith, inside, writers)) in
+    let counts = account.owned.counts place in
+    subst (λ (ps : List (List ℕ)). Tells ps (place + 2) (records_of (place + 2) (records_after (first_buffers setup 1 buffers) (history_of world.service)))) same
+    (told_of (payload_at setup place) place view (account.held place) (account.cuts place inside) world.service
+    counts.learnt (λ n chunk content at. (counts.named n chunk content at).0) (λ n look found at is. (account.owned.looks n look found at is).0)
+    setup buffers spec get (order inside))
+
+pub every_account_is_faithful : EveryAccountIsFaithful
+every_account_is_faithful setup buffers world account = record {
+  known = account_known setup buffers world account;
+  told = λ place packets own e. account_tells setup buffers world account place packets (λ inside. account.order place inside own) e;
+}

@@ -53,6 +53,10 @@ abbrev pub CommitsElsewhere : ServiceView → (sequence place : ℕ) → Type 0
 CommitsElsewhere service sequence place =
     (committed : Committed) → slice_get service.commits place ≡ Some committed → (committed.image.sequence == sequence) ≡ false
 
+-- nothing of the sequence came by a commit
+abbrev pub NoneCommitted : ServiceView → (sequence : ℕ) → Type 0
+NoneCommitted service sequence = (place : ℕ) → CommitsElsewhere service sequence place
+
 -- The notes on one sequence are in order: so many of its chunks have come, it is closed or not, and these patches are due next.
 -- Its chunks come in the order of their positions, each once and with its content, and the patches of each right behind it. Parts of a
 -- chunk come before it. Nothing of it comes behind its close, and nothing by a commit. What is noted on other sequences is free,
@@ -88,8 +92,8 @@ InOrder images service sequence come closed due (Read other limit ∷ notes) =
 
 -- The whole
 
--- a world whose chunks are owned, whose writers have cut their packets into chunks, as many as they began, and whose service noted them in
--- order
+-- A world whose chunks are owned, whose writers have cut their packets into chunks, as many as they began, and whose service noted in order
+-- those of each writer in whose name nothing came by a commit.
 pub record IsAccount (setup : Setup) (world : World) : Type 0 where
   pub owned : IsOwned world
   pub writers : length world.writers ≡ length setup.writers
@@ -99,5 +103,5 @@ pub record IsAccount (setup : Setup) (world : World) : Type 0 where
   -- each began as many chunks as it completed and holds: so one that began none holds nothing
   pub begun : (place : ℕ) → place < length world.writers
       → length (writer world place).begun ≡ length (completed_images (writer world place).begun) + length (held place)
-  pub order : (place : ℕ) → place < length world.writers
+  pub order : (place : ℕ) → place < length world.writers → NoneCommitted world.service (sequence_of place)
       → InOrder (all_images (writer world place) (held place)) world.service (sequence_of place) 0 false [] world.service.events
