@@ -25,7 +25,8 @@ use Rattle.session_core.specs.Sessions.{SessionValue}
 use Rattle.service_core.specs.declared.service.ServiceCore.{ServiceCore}
 use Rattle.service_core.specs.Routing.{arrivals_of, is_closed_at}
 use Rattle.service_core.specs.Order.{Stage, LeadTo, beginning}
-use Rattle.service_core.specs.Agreement.{IsRouted, AreKnownNotes, NoneCommitted, buffer_of, ServiceAgrees, KeepsFields, KeepsRest, KeepsTaking, is_closed, first_of, spec_value}
+use Rattle.world_model.specs.Accounts.{NoneCommitted}
+use Rattle.service_core.specs.Agreement.{IsRouted, AreKnownNotes, buffer_of, ServiceAgrees, KeepsFields, KeepsRest, KeepsTaking, is_closed, first_of, spec_value}
 use Rattle.service_core.specs.Looking.{looked}
 use Rattle.service_core.specs.Taking.{patched_where, takings, taken_more, took}
 use Rattle.service_core.proofs.HistoryLemmas.{Grows, all_known_grow, known_append, history_stays}

@@ -17,7 +17,8 @@ use Rattle.chunk_plain.specs.Steps.{notes_commit}
 use Rattle.chunk_plain.specs.Histories.{commit_of, happened}
 use Rattle.service_core.specs.declared.service.ServiceCore.{ServiceCore}
 use Rattle.service_core.specs.Routing.{buffer_at, is_closed_at}
-use Rattle.service_core.specs.Agreement.{AreKnownNotes, NoneCommitted, ServiceAgrees, KeepsFields, buffer_of, is_closed}
+use Rattle.world_model.specs.Accounts.{NoneCommitted}
+use Rattle.service_core.specs.Agreement.{AreKnownNotes, ServiceAgrees, KeepsFields, buffer_of, is_closed}
 use Rattle.service_core.specs.Order.{LeadTo, beginning}
 use Rattle.service_core.specs.Taking.{noted_more}
 use Rattle.service_core.specs.Closing.{ClosesOne, ClosesSome, closes_of}
@@ -49,7 +50,7 @@ agrees_noted setup old core done notes agrees keeps buffers_are taken_is known l
     (leads place inside none))
 
 -- the sequence itself is closed, and each other one is as it was
-closed_here : (b : Buffer) (q : ℕ) → is_known b.sequences q ≡ true → (sequence_in (buffer_after b (model.Closed q)).sequences q).closed ≡ true
+pub closed_here : (b : Buffer) (q : ℕ) → is_known b.sequences q ≡ true → (sequence_in (buffer_after b (model.Closed q)).sequences q).closed ≡ true
 closed_here b q known =
     ap (λ (x : Bool). (sequence_in (cond x (cond (sequence_in b.sequences q).closed b (closed_buffer b q)) b).sequences q).closed) known ∙ step (sequence_in b.sequences q).closed refl
   where
@@ -57,7 +58,7 @@ closed_here b q known =
     step true is = is
     step false is = ap (λ (s : Sequence). s.closed) (changed_here q (closed_sequence b.live) (λ s. refl) b.sequences known)
 
-closed_there : (b : Buffer) (q other : ℕ) → is_known b.sequences other ≡ true → q ≢ other
+pub closed_there : (b : Buffer) (q other : ℕ) → is_known b.sequences other ≡ true → q ≢ other
     → (sequence_in (buffer_after b (model.Closed q)).sequences other).closed ≡ (sequence_in b.sequences other).closed
 closed_there b q other known differs = by_known (is_known b.sequences q)
   where
@@ -131,7 +132,7 @@ noted_close between old new places place before one =
 
 -- A commit is noted with what came by it.
 
-committed_grows : (view : ServiceView) (committed : Committed) → Grows view (notes_commit view committed)
+pub committed_grows : (view : ServiceView) (committed : Committed) → Grows view (notes_commit view committed)
 committed_grows view committed =
     record { contents = λ s i content is. is; looks = λ p i n found is. is; commits = λ k one is. get_more view.commits (committed ∷ []) k one is }
 

@@ -18,5 +18,6 @@ pub mod RoomLemmas
 pub mod RouteLemmas
 pub mod RoutedLemmas
 pub mod ScrapeLemmas
+pub mod ShutLemmas
 pub mod TakingLemmas
 pub mod ToldLemmas

@@ -29,7 +29,7 @@ first_sequences setup n (s ∷ specs) zero below = ap (λ (m : ℕ). sequences_f
 first_sequences setup n (s ∷ specs) (suc i) below =
     first_sequences setup (suc n) specs i (omega arith) ∙ ap (λ (m : ℕ). sequences_from setup m 0 setup.writers) (let same : suc n + i ≡ n + suc i = omega arith in same)
 
-at_first : (setup : Setup) (specs : List first.BufferSpec) (place : ℕ) → place < length setup.writers → 1 ≤ buffer_of setup place → buffer_of setup place ≤ length specs
+pub at_first : (setup : Setup) (specs : List first.BufferSpec) (place : ℕ) → place < length setup.writers → 1 ≤ buffer_of setup place → buffer_of setup place ≤ length specs
     → IsAt (first_buffers setup 1 specs) (buffer_of setup place - 1) (place + 2) (record_size (size_of setup (producer_of setup place)))
 at_first setup specs place inside least most =
     let spec : WriterSpec = spec_at setup.writers place in

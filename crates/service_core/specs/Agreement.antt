@@ -11,7 +11,7 @@ use Rattle.chunk_plain.specs.Views.{Content, Found, Noted, Arrive, Partial, Patc
 use Rattle.chunk_plain.specs.Histories.{history_of, content_at, found_among}
 use Rattle.trace_buffer.specs.declared.answers.BufferSpec.{BufferSpec}
 use Rattle.session_core.specs.Sessions.{HasAnswered, answer_at}
-use Rattle.world_model.specs.Accounts.{CommitsElsewhere}
+use Rattle.world_model.specs.Accounts.{NoneCommitted}
 use Rattle.world_model.specs.FirstBuffers as first
 use Rattle.service_core.specs.Routing.{is_closed_at}
 use Rattle.service_core.specs.Order.{LeadTo, beginning}
@@ -58,10 +58,6 @@ AreKnownNotes view (note ∷ notes) = IsKnownNote view note × AreKnownNotes vie
 -- the sequence of the writer at this place is closed
 abbrev pub is_closed : {S : Type 0} → Setup → ServiceCore S → ℕ → Bool
 is_closed setup core place = is_closed_at core.buffers.items (buffer_of setup place - 1) (sequence_of place)
-
--- nothing of the sequence came by a commit
-abbrev pub NoneCommitted : ServiceView → ℕ → Type 0
-NoneCommitted view sequence = (place : ℕ) → CommitsElsewhere view sequence place
 
 -- Between two calls: the service has the table's set-up, has taken what its view says, and its buffers are the fold of the history.
 pub record ServiceAgrees {S : Type 0} (setup : Setup) (view : ServiceView) (core : ServiceCore S) : Type 0 where

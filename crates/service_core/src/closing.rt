@@ -16,8 +16,9 @@ use chunk_plain::{ServiceEvent, Words};
 use trace_base::limits::FIRST_SEQUENCE;
 
 impl<S> ServiceCore<S> {
-    /// Closes the sequence of the writer at this place.
-    fn close_writer<W: Words<Service = S>>(&mut self, table: &mut W, place: usize)
+    /// Closes the sequence of the writer at this place, counted from 0. No chunk is taken: it is for a
+    /// sequence whose chunks all come by commits.
+    pub fn close_writer<W: Words<Service = S>>(&mut self, table: &mut W, place: usize)
         requires serves { W.means.serves table.old self.old.seat }
         requires agrees { ServiceAgrees (W.means.setup table.old) (W.means.service_view table.old self.old.seat) self.old }
         requires place { place < length (W.means.setup table.old).writers }
