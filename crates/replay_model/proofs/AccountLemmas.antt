@@ -13,7 +13,7 @@ use Rattle.trace_model.specs.Images.{Image}
 use Rattle.trace_model.specs.Packets.{packets_of, emissions_of}
 use Rattle.trace_model.specs.Sequences.{Sequence, IsFresh, sequence_in, is_known}
 use Rattle.trace_model.specs.Tells.{Tells}
-use Rattle.trace_model.specs.Delivery.{Delivered, IsFaithful, records_of}
+use Rattle.trace_model.specs.Delivery.{Delivered, IsFaithfulOf, records_of}
 use Rattle.trace_model.specs.History.{records_after}
 use Rattle.chunk_plain.specs.Setup.{Setup, sequence_of, no_writer}
 use Rattle.chunk_plain.specs.Views.{At, BegunChunk, Held, Completed, Content, Draft, taken_of, WriterView, newcomer}
@@ -23,7 +23,7 @@ use Rattle.chunk_plain.specs.Owned.{IsOwned, held_count}
 use Rattle.chunk_plain.proofs.Lists.{at_inside, at_one}
 use Rattle.world_model.specs.FirstBuffers.{BufferSpec, payload_at, first_buffers}
 use Rattle.world_model.specs.FrontLaws.{StandsInWords}
-use Rattle.world_model.specs.Accounts.{all_images, HasCut, InOrder, IsAccount}
+use Rattle.world_model.specs.Accounts.{NoneCommitted, all_images, HasCut, InOrder, IsAccount}
 use Rattle.trace_model.specs.Cut.{newest_goes_on}
 use Rattle.trace_model.proofs.PageLemmas.{images_long}
 use Rattle.delivery_laws.specs.DeliveryLaws.{IsAccountOf}
@@ -177,34 +177,35 @@ module _ (setup : Setup) (world : World) (owned : ∥ IsOwned world ∥₁) (pla
   abbrev pub has_written : HasWritten setup place view
   has_written = record { held = wrote.held; cut = wrote.cut; images = has_images; begun = wrote.begun }
 
-  pub order_of : IsSorted setup world.service → place < length setup.writers → InOrder images world.service (sequence_of place) 0 false [] world.service.events
-  order_of sorted inside =
+  pub order_of : IsSorted setup world.service → place < length setup.writers → NoneCommitted world.service (sequence_of place)
+      → InOrder images world.service (sequence_of place) 0 false [] world.service.events
+  order_of sorted inside none =
       in_order world (owned_itself world owned) place images has_images
-      (at_stage (taken_of world.service place).count (is_shut (sequence_of place) world.service.events)) (sorted.lead place inside) refl
+      (at_stage (taken_of world.service place).count (is_shut (sequence_of place) world.service.events)) (sorted.lead place inside none) refl
 
-  pub tells_of : IsSorted setup world.service → place < length setup.writers → (buffers : List BufferSpec) (spec : WriterSpec) → slice_get setup.writers place ≡ Some spec
+  pub tells_of : IsSorted setup world.service → place < length setup.writers → NoneCommitted world.service (sequence_of place) → (buffers : List BufferSpec) (spec : WriterSpec) → slice_get setup.writers place ≡ Some spec
       → Tells (emissions_of view.calls) (place + 2) (records_of (place + 2) (records_after (first_buffers setup 1 buffers) (history_of world.service)))
-  tells_of sorted inside buffers spec get =
+  tells_of sorted inside none buffers spec get =
       told_of (payload_at setup place) place view wrote.held wrote.cut world.service (learnt world (owned_itself world owned) place)
-      (named world (owned_itself world owned) place) (finds world (owned_itself world owned) place) setup buffers spec get (order_of sorted inside)
+      (named world (owned_itself world owned) place) (finds world (owned_itself world owned) place) setup buffers spec get (order_of sorted inside none)
 
   -- the pages come in order in the history
-  pub history_in_order : IsSorted setup world.service → place < length setup.writers
+  pub history_in_order : IsSorted setup world.service → place < length setup.writers → NoneCommitted world.service (sequence_of place)
       → orders.InOrder (sheets_of (newest_goes_on (packets_of view.calls)) wrote.cut.cut.pages) (place + 2) 0 false [] (history_of world.service)
-  history_in_order sorted inside =
+  history_in_order sorted inside none =
       order_events (payload_at setup place) place view wrote.held wrote.cut world.service (learnt world (owned_itself world owned) place)
-      (named world (owned_itself world owned) place) (finds world (owned_itself world owned) place) world.service.events 0 false [] (order_of sorted inside)
+      (named world (owned_itself world owned) place) (finds world (owned_itself world owned) place) world.service.events 0 false [] (order_of sorted inside none)
 
   -- the account of the sequence, in a buffer that has it
-  pub account_in : IsSorted setup world.service → place < length setup.writers → (sequences : List Sequence) (record_size : ℕ)
+  pub account_in : IsSorted setup world.service → place < length setup.writers → NoneCommitted world.service (sequence_of place) → (sequences : List Sequence) (record_size : ℕ)
       → is_known sequences (place + 2) ≡ true → IsFresh (place + 2) record_size (sequence_in sequences (place + 2))
       → IsAccountOf (payload_at setup place) view.calls wrote.cut.cut.pages sequences (place + 2) record_size (history_of world.service)
-  account_in sorted inside sequences record_size known start = record {
+  account_in sorted inside none sequences record_size known start = record {
     possible = wrote.cut.possible;
     cut = wrote.cut.cut.cut;
     known = known;
     start = start;
-    order = history_in_order sorted inside;
+    order = history_in_order sorted inside none;
   }
 
 -- ---- the whole
@@ -213,7 +214,8 @@ pub many_writers : (setup : Setup) (world : World) → ∥ IsOwned world ∥₁ 
 many_writers setup world owned stands = ∥∥₁_elim owned (ℕ_set _ _) (λ (is : IsOwned world). sym is.all_taken ∙ stands.sorted.many)
 
 pub standing_is_faithful : (setup : Setup) (buffers : List BufferSpec) (world : World) → ∥ IsOwned world ∥₁ → Stands setup world
-    → IsFaithful (map (λ (view : WriterView). emissions_of view.calls) world.writers) (records_after (first_buffers setup 1 buffers) (history_of world.service))
+    → IsFaithfulOf (λ place. NoneCommitted world.service (sequence_of place)) (map (λ (view : WriterView). emissions_of view.calls) world.writers)
+    (records_after (first_buffers setup 1 buffers) (history_of world.service))
 standing_is_faithful setup buffers world owned stands = record { known = known; told = tells }
   where
     many : length world.writers ≡ length setup.writers
@@ -226,9 +228,10 @@ standing_is_faithful setup buffers world owned stands = record { known = known; 
         (sym many ∙ sym (length-map world.writers (λ (view : WriterView). emissions_of view.calls)))
         (all_mine (λ s. (2 ≤ s) × (s < length setup.writers + 2)) (history_of world.service) (first_buffers setup 1 buffers) (only_writers setup 1 buffers))
 
-    tells : (place : ℕ) (packets : List (List ℕ)) → slice_get (map (λ (view : WriterView). emissions_of view.calls) world.writers) place ≡ Some packets
+    tells : (place : ℕ) (packets : List (List ℕ)) → NoneCommitted world.service (sequence_of place)
+        → slice_get (map (λ (view : WriterView). emissions_of view.calls) world.writers) place ≡ Some packets
         → Tells packets (place + 2) (records_of (place + 2) (records_after (first_buffers setup 1 buffers) (history_of world.service)))
-    tells place packets e =
+    tells place packets none e =
         let long = length-map world.writers (λ (view : WriterView). emissions_of view.calls) in
         let low = slice_get_within (map (λ (view : WriterView). emissions_of view.calls) world.writers) place packets e in
         let all = many in
@@ -242,7 +245,7 @@ standing_is_faithful setup buffers world owned stands = record { known = known; 
         let spec : WriterSpec = get_or setup.writers place no_writer in
         let get = slice_get-get_or setup.writers place no_writer within in
         subst (λ (ps : List (List ℕ)). Tells ps (place + 2) (records_of (place + 2) (records_after (first_buffers setup 1 buffers) (history_of world.service)))) same
-        (tells_of setup world owned place (stands.wrote place within) stands.sorted within buffers spec get)
+        (tells_of setup world owned place (stands.wrote place within) stands.sorted within none buffers spec get)
 
 module _ (setup : Setup) (world : World) (owned : ∥ IsOwned world ∥₁) (stands : Stands setup world) where
   abbrev held_by : (place : ℕ) → (place < length setup.writers) ⊎ (length setup.writers ≤ place) → List Image
@@ -260,9 +263,9 @@ module _ (setup : Setup) (world : World) (owned : ∥ IsOwned world ∥₁) (sta
   begun_by place (inr past) low = absurd (omega (arith, past, low))
 
   order_by : (place : ℕ) (c : (place < length setup.writers) ⊎ (length setup.writers ≤ place)) → place < length setup.writers
-      → InOrder (all_images (writer world place) (held_by place c)) world.service (sequence_of place) 0 false [] world.service.events
-  order_by place (inl inside) low = order_of setup world owned place (stands.wrote place inside) stands.sorted inside
-  order_by place (inr past) low = absurd (omega (arith, past, low))
+      → NoneCommitted world.service (sequence_of place) → InOrder (all_images (writer world place) (held_by place c)) world.service (sequence_of place) 0 false [] world.service.events
+  order_by place (inl inside) low none = order_of setup world owned place (stands.wrote place inside) stands.sorted inside none
+  order_by place (inr past) low none = absurd (omega (arith, past, low))
 
   account_of_world : IsOwned world → IsAccount setup world
   account_of_world is =
@@ -273,7 +276,7 @@ module _ (setup : Setup) (world : World) (owned : ∥ IsOwned world ∥₁) (sta
         held = λ place. held_by place (cases_lt place (length setup.writers));
         cuts = λ place low. cut_by place (cases_lt place (length setup.writers)) (omega (arith, low, many));
         begun = λ place low. begun_by place (cases_lt place (length setup.writers)) (omega (arith, low, many));
-        order = λ place low. order_by place (cases_lt place (length setup.writers)) (omega (arith, low, many));
+        order = λ place low none. order_by place (cases_lt place (length setup.writers)) (omega (arith, low, many)) none;
       }
 
   pub standing_is_account : ∥ IsAccount setup world ∥₁

@@ -32,8 +32,10 @@ use Rattle.scenario_text.specs.declared.scenario.LineKind.TheVariants as line
 use Rattle.scenario_text.specs.Scenario.{Parts}
 use Rattle.scenario_text.specs.Accepted.{line_calls, calls_asked, node_call}
 use Rattle.scenario_text.specs.Limits.{IsWriter, IsSetUp}
+use Rattle.scenario_text.specs.Raws.{HasNoRaw, has_raw}
 use Rattle.service_core.specs.Routing.{buffer_at}
 use Rattle.replay_model.specs.Played.{buffer_specs, buffers_of, buffers_in, counts_from, packet_counts, AreBalanced}
+use Rattle.replay_model.specs.Raws.{counts_by}
 use Rattle.replay_model.specs.Laws.{EveryReportIsBalanced}
 use Rattle.replay_model.proofs.DoneLemmas.{IsDone, played_done, there, within, account_of}
 use Rattle.replay_model.proofs.PigeonLemmas.{hit_few}
@@ -91,7 +93,7 @@ nodes_begin_none ((node.Bytes field times, text) ∷ nodes) = nodes_begin_none n
 nodes_begin_none ((node.Begin field, text) ∷ nodes) = nodes_begin_none nodes
 nodes_begin_none ((node.End, text) ∷ nodes) = nodes_begin_none nodes
 
--- the writer that a line asks something of, or 0
+-- the writer that a line asks something of, or 0; a chunk that is committed in a writer's name asks nothing of it
 abbrev pub writer_number : LineKind → ℕ
 writer_number (line.Packet writer fields) = writer
 writer_number (line.Begin writer) = writer
@@ -106,6 +108,7 @@ writer_number (line.Close producer) = 0
 writer_number (line.Read buffer limit) = 0
 writer_number line.Request = 0
 writer_number (line.CloneBuffer buffer) = 0
+writer_number (line.Raw writer chunk) = 0
 
 own_begins : (b : Bool) (calls : List Call) → begins calls ≤ 1 → begins (cond b calls []) ≤ one_if b
 own_begins true calls few = few
@@ -129,6 +132,7 @@ line_own number (line.Close producer) = omega arith
 line_own number (line.Read buffer limit) = omega arith
 line_own number line.Request = omega arith
 line_own number (line.CloneBuffer buffer) = omega arith
+line_own number (line.Raw writer chunk) = omega arith
 
 lines_begin : (number : ℕ) (lines : List NumberedLine) → begins (calls_asked number lines) ≤ length lines
 lines_begin number [] = omega arith
@@ -175,34 +179,50 @@ balanced_under Ring Discard calls state balanced = let sum = balanced.sum in rec
 balanced_under Discard Ring calls state balanced = let sum = balanced.sum in record { sum = omega (arith, sum) }
 balanced_under Discard Discard calls state balanced = balanced
 
-pub record IsCountOf (buffers : List Buffer) (world : World) (place i : ℕ) (specs : List WriterSpec) (counts : PacketCounts) : Type 0 where
+pub record IsCountOf (lines : List NumberedLine) (buffers : List Buffer) (world : World) (place i : ℕ) (specs : List WriterSpec) (counts : PacketCounts) : Type 0 where
   pub spec : WriterSpec
   pub get : slice_get specs i ≡ Some spec
-  pub is : counts ≡ counts_of (buffer_at buffers (spec.buffer - 1)).policy (writer world (place + i)).calls
+  pub is : counts ≡ counts_by (has_raw (suc (place + i)) lines) (buffer_at buffers (spec.buffer - 1)).policy (writer world (place + i)).calls
       (sequence_in (buffer_at buffers (spec.buffer - 1)).sequences (sequence_of (place + i)))
 
-pub count_at : (buffers : List Buffer) (world : World) (place : ℕ) (specs : List WriterSpec) (i : ℕ) (counts : PacketCounts)
-    → slice_get (counts_from buffers world place specs) i ≡ Some counts → IsCountOf buffers world place i specs counts
-count_at buffers world place [] i counts get = absurd (cc)
-count_at buffers world place (spec ∷ specs) zero counts get =
+-- the counts of one writer, where its sequence is in this buffer
+abbrev counts_in : List NumberedLine → Buffer → World → (place : ℕ) → PacketCounts
+counts_in lines buffer world place =
+    counts_by (has_raw (suc place) lines) buffer.policy (writer world place).calls (sequence_in buffer.sequences (sequence_of place))
+
+pub count_at : (lines : List NumberedLine) (buffers : List Buffer) (world : World) (place : ℕ) (specs : List WriterSpec) (i : ℕ) (counts : PacketCounts)
+    → slice_get (counts_from lines buffers world place specs) i ≡ Some counts → IsCountOf lines buffers world place i specs counts
+count_at lines buffers world place [] i counts get = absurd (cc)
+count_at lines buffers world place (spec ∷ specs) zero counts get =
     let buffer : Buffer = buffer_at buffers (spec.buffer - 1) in
-    let first : PacketCounts = counts_of buffer.policy (writer world place).calls (sequence_in buffer.sequences (sequence_of place)) in
+    let first : PacketCounts = counts_in lines buffer world place in
     let same : first ≡ counts = cc in
     let at : place ≡ place + 0 = omega arith in
     record {
       spec = spec;
       get = refl;
-      is = sym same ∙ ap (λ (p : ℕ). counts_of buffer.policy (writer world p).calls (sequence_in buffer.sequences (sequence_of p))) at;
+      is = sym same ∙ ap (λ (p : ℕ). counts_in lines buffer world p) at;
     }
-count_at buffers world place (spec ∷ specs) (suc i) counts get =
-    let h = count_at buffers world (suc place) specs i counts get in
+count_at lines buffers world place (spec ∷ specs) (suc i) counts get =
+    let h = count_at lines buffers world (suc place) specs i counts get in
     let buffer : Buffer = buffer_at buffers (h.spec.buffer - 1) in
     let at : suc place + i ≡ place + suc i = omega arith in
     record {
       spec = h.spec;
       get = h.get;
-      is = h.is ∙ ap (λ (p : ℕ). counts_of buffer.policy (writer world p).calls (sequence_in buffer.sequences (sequence_of p))) at;
+      is = h.is ∙ ap (λ (p : ℕ). counts_in lines buffer world p) at;
     }
+
+-- those of one in whose name no line commits a chunk
+pub own_counts : (lines : List NumberedLine) (buffers : List Buffer) (world : World) (specs : List WriterSpec) (place : ℕ) (counts : PacketCounts)
+    → HasNoRaw lines place → (count : IsCountOf lines buffers world 0 place specs counts)
+    → counts ≡ counts_of (buffer_at buffers (count.spec.buffer - 1)).policy (writer world place).calls
+    (sequence_in (buffer_at buffers (count.spec.buffer - 1)).sequences (sequence_of place))
+own_counts lines buffers world specs place counts none count =
+    let buffer : Buffer = buffer_at buffers (count.spec.buffer - 1) in
+    let at : 0 + place ≡ place = omega arith in
+    count.is ∙ ap (λ (p : ℕ). counts_in lines buffer world p) at
+    ∙ ap (λ (raw : Bool). counts_by raw buffer.policy (writer world place).calls (sequence_in buffer.sequences (sequence_of place))) none
 
 pub each_is : {A : Type 0} (P : A → Type 0) (xs : List A) (i : ℕ) (x : A) → AllByRecursion P xs → slice_get xs i ≡ Some x → P x
 each_is P [] i x all get = absurd (cc)
@@ -251,12 +271,12 @@ module _ (scenario : Parts) (setup : Setup) (world : World) (done : IsDone scena
       let asked = asked_few (suc place) scenario.lines in
       omega (arith, same, asked, few)
 
-  balanced : IsBalanced (counts_of (buffer_at (buffers_in scenario setup world) index).policy (writer world place).calls
+  balanced : HasNoRaw scenario.lines place → IsBalanced (counts_of (buffer_at (buffers_in scenario setup world) index).policy (writer world place).calls
       (sequence_in (buffer_at (buffers_in scenario setup world) index).sequences (sequence_of place)))
-  balanced =
+  balanced none =
       let is = set_at setup place spec (there scenario setup world done place spec get) spec.buffer in
       let named = eq-eqb spec.buffer spec.buffer refl in
-      let own = account_of scenario setup world done place (within scenario setup world done place spec get) (sequences_from setup spec.buffer 0 setup.writers)
+      let own = account_of scenario setup world done place (within scenario setup world done place spec get) none (sequences_from setup spec.buffer 0 setup.writers)
       (record_size (size_of setup spec.producer)) (is.known ∙ named) (is.start named) in
       let history = accounts_are_histories _ (writer world place).calls _ (sequences_from setup spec.buffer 0 setup.writers) (place + 2)
       (record_size (size_of setup spec.producer)) (history_of world.service) own begun_few in
@@ -268,15 +288,12 @@ module _ (scenario : Parts) (setup : Setup) (world : World) (done : IsDone scena
       (sequence_in (state_after first (history_of world.service)).sequences (place + 2)) here)
 
 pub done_is_balanced : (scenario : Parts) (setup : Setup) (world : World) → IsDone scenario setup world → length scenario.lines ≤ last_count
-    → IsSetUp scenario.buffers scenario.producers scenario.writers → AreBalanced (packet_counts scenario setup world)
-done_is_balanced scenario setup world done few is_set_up place counts get =
-    let count = count_at (buffers_in scenario setup world) world 0 scenario.writers place counts get in
+    → IsSetUp scenario.buffers scenario.producers scenario.writers → AreBalanced scenario.lines (packet_counts scenario setup world)
+done_is_balanced scenario setup world done few is_set_up place counts none get =
+    let count = count_at scenario.lines (buffers_in scenario setup world) world 0 scenario.writers place counts get in
     let is_writer = each_is (IsWriter scenario.buffers scenario.producers) scenario.writers place count.spec is_set_up.are_writers count.get in
-    let at : place ≡ 0 + place = omega arith in
-    subst IsBalanced (sym count.is)
-    (subst (λ (p : ℕ). IsBalanced (counts_of (buffer_at (buffers_in scenario setup world) (count.spec.buffer - 1)).policy (writer world p).calls
-    (sequence_in (buffer_at (buffers_in scenario setup world) (count.spec.buffer - 1)).sequences (sequence_of p)))) at
-    (balanced scenario setup world done few place count.spec count.get is_writer))
+    subst IsBalanced (sym (own_counts scenario.lines (buffers_in scenario setup world) world scenario.writers place counts none count))
+    (balanced scenario setup world done few place count.spec count.get is_writer none)
 
 pub every_report_is_balanced : EveryReportIsBalanced
 every_report_is_balanced scenario setup world notes played = done_is_balanced scenario setup world (played_done scenario setup world notes played)

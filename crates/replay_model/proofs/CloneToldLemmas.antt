@@ -1,8 +1,7 @@
 -- What a clone tells that is made between two lines: behind a front of a scenario's acts each writer's chunks are an account.
-use Rattle.std.proofs.Common.{◌≡◌, ◌∙◌, ℕ, suc, ◌+◌, ◌-◌, ◌*◌, ◌<◌, Bool, true, false, cond, List, [], ◌∷◌, length, Some, refl, sym, ap, subst, arith}
+use Rattle.std.proofs.Common.{◌≡◌, ◌∙◌, ℕ, suc, ◌+◌, ◌-◌, ◌*◌, ◌<◌, Bool, true, false, cond, List, [], ◌∷◌, Some, refl, sym, ap, subst, arith}
 use Rattle.std.specs.Prelude.{slice_get, ◌==◌}
 use Rattle.std.proofs.lemmas.Bool.{eq-eqb}
-use Rattle.std.proofs.lemmas.List.{length-map}
 use Rattle.std.proofs.lemmas.Option.{slice_get_within}
 use Rattle.byte_io.specs.Bytes.{Intake}
 use Rattle.trace_base.specs.declared.policy.WriterSpec.{WriterSpec}
@@ -22,6 +21,7 @@ use Rattle.scenario_text.specs.declared.scenario.BufferLine.{BufferLine}
 use Rattle.scenario_text.specs.declared.scenario.NumberedLine.{NumberedLine}
 use Rattle.scenario_text.specs.Limits.{IsWriter}
 use Rattle.scenario_text.specs.Scenario.{Parts}
+use Rattle.scenario_text.specs.Raws.{HasNoRaw}
 use Rattle.trace_buffer.specs.BufferFields.{NumbersOnce}
 use Rattle.trace_buffer.specs.Clones.{cloned}
 use Rattle.buffer_clone.specs.Clones.{clone_records}
@@ -31,7 +31,7 @@ use Rattle.world_model.proofs.MakingLemmas.{first_long, known_range, set_at}
 use Rattle.service_core.specs.Routing.{buffer_at}
 use Rattle.replay_model.specs.Clones.{EveryCloneTells, MakeClones, ReplaysCloning}
 use Rattle.replay_model.specs.Enough.{IsPlayable}
-use Rattle.replay_model.specs.Flushes.{FlushNote}
+use Rattle.replay_model.specs.ActNotes.{ActNote}
 use Rattle.replay_model.specs.Played.{IsSetupOf, Replays, buffer_specs, buffers_of, buffers_in}
 use Rattle.replay_model.specs.Plays.{Plays}
 use Rattle.replay_model.specs.Schedule.{acts_from, last_acts}
@@ -40,6 +40,7 @@ use Rattle.replay_model.proofs.BalanceLemmas.{after_at, each_is, first_at, get_m
 use Rattle.replay_model.proofs.CloneLemmas.{clones_change_no_replay}
 use Rattle.replay_model.proofs.FirstLemmas.{small_payload, first_stands}
 use Rattle.replay_model.proofs.PlayedLemmas.{plays_stand, setup_writers}
+use Rattle.replay_model.proofs.RawLemmas.{lines_committed_none}
 
 -- a sequence of an earlier writer isn't there
 not_there : (setup : Setup) (n place : ℕ) (specs : List WriterSpec) (q : ℕ) → q < place + 2 → is_known (sequences_from setup n place specs) q ≡ false
@@ -59,10 +60,10 @@ numbers_once setup n place (spec ∷ specs) = step (spec.buffer == n) (numbers_o
     step true rest = (not_there setup n (suc place) specs (place + 2) (omega arith), rest)
     step false rest = rest
 
-module _ (scenario : Parts) (setup : Setup) (before : List NumberedLine) (world : World) (notes : List FlushNote) (setup_is : IsSetupOf scenario setup)
+module _ (scenario : Parts) (setup : Setup) (before : List NumberedLine) (world : World) (notes : List ActNote) (setup_is : IsSetupOf scenario setup)
     (playable : IsPlayable scenario)
     (plays : Plays setup (buffers_of scenario setup) (acts_from scenario [] before) (first_world setup) world notes)
-    (place : ℕ) (spec : WriterSpec) (get : slice_get scenario.writers place ≡ Some spec) where
+    (place : ℕ) (spec : WriterSpec) (get : slice_get scenario.writers place ≡ Some spec) (none : HasNoRaw before place) where
   is_writer : IsWriter scenario.buffers scenario.producers spec
   is_writer = each_is (IsWriter scenario.buffers scenario.producers) scenario.writers place spec playable.set_up.are_writers get
 
@@ -106,18 +107,19 @@ module _ (scenario : Parts) (setup : Setup) (before : List NumberedLine) (world 
       subst (λ (b : Buffer). Tells (emissions_of (writer world place).calls) (place + 2) (records_of (place + 2) (clone_records (cloned b)))) (sym becomes)
       (every_clone_is_told (payload_at setup place) (writer world place).calls _ made.size made.policy sequences (place + 2) size history
       (numbers_once setup spec.buffer 0 setup.writers)
-      (account_in setup world stand.1 place (stand.0.wrote place inside) stand.0.sorted inside sequences size (is.known ∙ named) (is.start named)))
+      (account_in setup world stand.1 place (stand.0.wrote place inside) stand.0.sorted inside
+      (lines_committed_none scenario setup (buffers_of scenario setup) before world notes place plays none) sequences size (is.known ∙ named) (is.start named)))
 
 pub every_clone_tells : EveryCloneTells
-every_clone_tells scenario setup before lines world notes number setup_is playable is plays place spec get named =
+every_clone_tells scenario setup before lines world notes number setup_is playable is plays place spec get named none =
     subst (λ (n : ℕ). Tells (emissions_of (writer world place).calls) (place + 2)
     (records_of (place + 2) (clone_records (cloned (buffer_at (buffers_in scenario setup world) (n - 1)))))) named
-    (clone_told scenario setup before world notes setup_is playable plays place spec get)
+    (clone_told scenario setup before world notes setup_is playable plays place spec get none)
 
 -- a replay whose lines made these clones on its way
 pub replays_cloning : (scenario : Parts) (old new : Intake) (text : List ℕ) (clones : List Buffer) (replays : Replays scenario old new text) (between : World)
     → MakeClones scenario replays.setup [] scenario.lines (first_world replays.setup) between clones
-    → (notes : List FlushNote) → Plays replays.setup (buffers_of scenario replays.setup) (last_acts scenario) between replays.world notes
+    → (notes : List ActNote) → Plays replays.setup (buffers_of scenario replays.setup) (last_acts scenario) between replays.world notes
     → IsPlayable scenario → ReplaysCloning scenario old new text clones
 replays_cloning scenario old new text clones replays between make notes ends playable = record {
   replays = clones_change_no_replay scenario old new text replays;

@@ -1,5 +1,5 @@
 -- Where chunks and bytes are enough, and all came and was read, each packet is delivered.
-use Rattle.std.proofs.Common.{◌≡◌, ◌∙◌, ℕ, zero, suc, ◌+◌, ◌-◌, ◌*◌, ◌<◌, ◌≤◌, true, false, List, [], ◌∷◌, ◌++◌, length, map, Some, refl, sym, ap, subst, arith, inl, inr, append_assoc}
+use Rattle.std.proofs.Common.{◌≡◌, ◌∙◌, ℕ, zero, suc, ◌+◌, ◌-◌, ◌*◌, ◌<◌, ◌≤◌, All, true, false, List, [], ◌∷◌, ◌++◌, length, map, Some, refl, sym, ap, subst, arith, inl, inr, append_assoc}
 use Rattle.std.specs.Prelude.{slice_get}
 use Rattle.std.proofs.lemmas.Bool.{eq-eqb, ne_eqb}
 use Rattle.std.proofs.lemmas.List.{length-map}
@@ -12,14 +12,14 @@ use Rattle.trace_model.specs.Cut.{newest_goes_on}
 use Rattle.trace_model.specs.Delivery.{IsComplete, records_of}
 use Rattle.trace_model.specs.Enough.{most_chunks, payload_in}
 use Rattle.trace_model.specs.History.{Event, state_after, delivered_to, buffers_after, reads_of}
-use Rattle.trace_model.specs.Packets.{packets_of, emissions_of, begun_count}
+use Rattle.trace_model.specs.Packets.{packets_of, bodies_of, emissions_of, begun_count}
 use Rattle.trace_model.specs.Pages.{patches_of}
 use Rattle.trace_model.specs.Reads.{Delivery}
 use Rattle.trace_model.specs.Record.{record_of}
 use Rattle.trace_model.specs.Sequences.{Sequence, is_known}
 use Rattle.model_laws.proofs.TextSizes.{all_finished}
 use Rattle.delivery_laws.specs.DeliveryLaws.{IsAccountOf}
-use Rattle.delivery_laws.specs.Finishing.{Finishes}
+use Rattle.delivery_laws.specs.Finishing.{AllWhole, Finishes}
 use Rattle.delivery_laws.specs.Room.{asked, wanted}
 use Rattle.delivery_laws.proofs.OrderLemmas.{every_writer_is_told}
 use Rattle.delivery_laws.proofs.EnoughLemmas.{every_packet_is_delivered, emissions_few}
@@ -35,6 +35,7 @@ use Rattle.scenario_text.specs.declared.scenario.NumberedLine.{NumberedLine}
 use Rattle.scenario_text.specs.Scenario.{Parts}
 use Rattle.scenario_text.specs.Accepted.{calls_asked}
 use Rattle.scenario_text.specs.Limits.{IsWriter}
+use Rattle.scenario_text.proofs.SpelledLemmas.{PassesCheck}
 use Rattle.scenario_text.specs.Emissions.{emitted_from, emitted_in}
 use Rattle.service_core.specs.Agreement.{spec_at}
 use Rattle.service_core.specs.Reading.{reads_in, sequences_to}
@@ -48,10 +49,11 @@ use Rattle.replay_model.proofs.BalanceLemmas as balance
 use Rattle.replay_model.proofs.BytesLemmas.{BelowAt, order_below, sheets_long, each_below, begun_of, wanted_few}
 use Rattle.replay_model.proofs.DoneLemmas.{IsDone, there, within, spec_is, spec_there, account_of}
 use Rattle.replay_model.proofs.FinishLemmas.{HasRead, has_read_left, has_read_right}
-use Rattle.replay_model.proofs.LostLemmas.{all_whole}
+use Rattle.replay_model.proofs.LostLemmas.{all_whole, bodies_emitted}
 use Rattle.replay_model.proofs.NoneLostLemmas.{is_writer, rests, size_here, begun_few, none_is_lost}
 use Rattle.replay_model.proofs.PhaseLemmas.{AreReads}
 use Rattle.replay_model.proofs.PlayedLemmas.{setup_writers}
+use Rattle.replay_model.proofs.RawLemmas.{none_has_raw}
 use Rattle.replay_model.proofs.ReadOutLemmas.{told_few, begun_sum, IsFew, reads_has}
 use Rattle.replay_model.proofs.RoomLemmas.{payload_for, bytes_from, bytes_enough}
 
@@ -140,7 +142,7 @@ module _ (scenario : Parts) (setup : Setup) (world : World) (done : IsDone scena
   pub all_bytes : bytes_from scenario.lines scenario.producers spec.buffer 1 scenario.writers ≤ made.size
   all_bytes =
       subst (λ (n : ℕ). bytes_from scenario.lines scenario.producers n 1 scenario.writers ≤ made.size) number
-      (bytes_enough scenario.lines scenario.producers (map (λ (line : BufferLine). line.kb * 1024) scenario.buffers) scenario.writers (spec.buffer - 1) made.size enough.bytes
+      (bytes_enough scenario.lines scenario.producers (map (λ (line : BufferLine). line.kb * 1024) scenario.buffers) scenario.writers (spec.buffer - 1) made.size enough.enough.bytes
       (get_map (λ (line : BufferLine). line.kb * 1024) scenario.buffers (spec.buffer - 1) is.into_buffer is.buffer_is))
 
   -- ---- the last read
@@ -151,7 +153,7 @@ module _ (scenario : Parts) (setup : Setup) (world : World) (done : IsDone scena
   own_account p other got into =
       let set = set_at setup p other (there scenario setup world done p other got) spec.buffer in
       let named = eq-eqb other.buffer spec.buffer into in
-      account_of scenario setup world done p (within scenario setup world done p other got) sequences (record_size (size_of setup other.producer)) (set.known ∙ named) (set.start named)
+      account_of scenario setup world done p (within scenario setup world done p other got) (none_has_raw scenario.lines p enough.no_raw) sequences (record_size (size_of setup other.producer)) (set.known ∙ named) (set.start named)
 
   few_at : (p : ℕ) → p < length setup.writers → (spec_at setup.writers p).buffer ≡ spec.buffer
       → IsFew first history spec.buffer last_count (λ p. begun_count (calls_asked (suc p) scenario.lines)) p
@@ -214,7 +216,7 @@ module _ (scenario : Parts) (setup : Setup) (world : World) (done : IsDone scena
       let most = range.1 in
       let inside : q - 2 < length setup.writers = omega (arith, least, most) in
       let one = done.wrote (q - 2) inside in
-      let order = done.order (q - 2) inside in
+      let order = done.order (q - 2) inside (none_has_raw scenario.lines (q - 2) enough.no_raw) in
       let long = sheets_long (patches_of one.cut.cut.pages) 0 (newest_goes_on (packets_of (writer world (q - 2)).calls)) one.cut.cut.pages in
       let pages = pages_begun setup (q - 2) (writer world (q - 2)) one in
       let back : q - 2 + 2 ≡ q = omega (arith, least) in
@@ -245,6 +247,15 @@ module _ (scenario : Parts) (setup : Setup) (world : World) (done : IsDone scena
       let one = every_ask_is_counted made.size made.policy sequences (begun_of world) history (each_below (begun_of world) sequences history below) few in
       omega (arith, few, one)
 
+  -- what the writer wrote is what its lines asked for, which the packet check accepts
+  accepted : AllWhole (packets_of (writer world place).calls) → All PassesCheck (bodies_of (writer world place).calls)
+  accepted whole =
+      let at : place + 1 ≡ suc place = omega arith in
+      subst (All PassesCheck)
+      (ap (λ (n : ℕ). emissions_of (calls_asked n scenario.lines)) at
+      ∙ sym (bodies_emitted (writer world place).calls whole ∙ (done.shape place (within scenario setup world done place spec get)).emitted))
+      (playable.asks place spec get).passes
+
   -- all of it came, the sequence was closed, and then it was read
   delivered_all : Finishes (place + 2) (length (done.wrote place (within scenario setup world done place spec get)).cut.cut.pages) (begun_count (writer world place).calls) 0 false
       (history_of world.service)
@@ -254,7 +265,7 @@ module _ (scenario : Parts) (setup : Setup) (world : World) (done : IsDone scena
       let whole = all_whole (packets_of (writer world place).calls) none
       (all_finished (writer world place).calls own.cut.possible (rests scenario setup world done playable enough place spec get)) in
       let all = every_packet_is_delivered (payload_at setup place) (writer world place).calls own.cut.cut.pages made.size made.policy sequences (place + 2)
-      (record_size (size_of setup spec.producer)) history (own_account place spec get refl) whole finishes fits in
+      (record_size (size_of setup spec.producer)) history (own_account place spec get refl) whole (accepted whole) finishes fits in
       let once = once_here setup place spec (there scenario setup world done place spec get) 1 (buffer_specs scenario) (spec.buffer - 1) made
       (balance.made_there scenario setup world done playable.few place spec get is) (sym number) in
       let records = ap (λ (xs : List (List ℕ)). length xs) (once_writes (place + 2) history first (buffers_of scenario setup) once) in

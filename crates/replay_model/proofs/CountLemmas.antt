@@ -29,11 +29,12 @@ use Rattle.world_model.proofs.MakingLemmas.{set_at}
 use Rattle.world_model.proofs.ProjectLemmas.{once_writes}
 use Rattle.scenario_text.specs.Scenario.{Parts}
 use Rattle.scenario_text.specs.Limits.{IsWriter, IsSetUp}
+use Rattle.scenario_text.specs.Raws.{HasNoRaw}
 use Rattle.service_core.specs.Routing.{buffer_at}
 use Rattle.replay_model.specs.Laws.{EveryReportCountsPackets}
 use Rattle.replay_model.specs.Played.{buffer_specs, buffers_of, buffers_in, packet_counts, first_buffer, CountsPackets}
 use Rattle.replay_model.proofs.BalanceLemmas as balance
-use Rattle.replay_model.proofs.BalanceLemmas.{count_at, each_is}
+use Rattle.replay_model.proofs.BalanceLemmas.{count_at, own_counts, each_is}
 use Rattle.replay_model.proofs.CompleteLemmas.{once_here}
 use Rattle.replay_model.proofs.DoneLemmas.{IsDone, played_done, there, within, account_of}
 
@@ -98,11 +99,11 @@ module _ (scenario : Parts) (setup : Setup) (world : World) (done : IsDone scena
       ap (λ (s : WriterSpec). buffer_at (buffers_of scenario setup) (s.buffer - 1)) (get_or_from_slice_get scenario.writers place spec no_writer get)
       ∙ balance.begins_as scenario setup world done few place spec get is_writer
 
-  counted : (counts : PacketCounts)
+  counted : HasNoRaw scenario.lines place → (counts : PacketCounts)
       → counts ≡ counts_of (buffer_at (buffers_in scenario setup world) (spec.buffer - 1)).policy (writer world place).calls
       (sequence_in (buffer_at (buffers_in scenario setup world) (spec.buffer - 1)).sequences (sequence_of place))
       → CountsPackets scenario setup world place counts
-  counted counts is =
+  counted none counts is =
       let inside = within scenario setup world done place spec get in
       let wrote = done.wrote place inside in
       let set = set_at setup place spec (there scenario setup world done place spec get) spec.buffer in
@@ -110,7 +111,7 @@ module _ (scenario : Parts) (setup : Setup) (world : World) (done : IsDone scena
       let sequences : List Sequence = sequences_from setup spec.buffer 0 setup.writers in
       let size : ℕ = record_size (size_of setup spec.producer) in
       let history : List Event = history_of world.service in
-      let account = account_of scenario setup world done place inside sequences size (set.known ∙ named) (set.start named) in
+      let account = account_of scenario setup world done place inside none sequences size (set.known ∙ named) (set.start named) in
       let histories = accounts_are_histories _ (writer world place).calls wrote.cut.cut.pages sequences (place + 2) size history account
       (balance.begun_few scenario setup world done few place spec get is_writer) in
       let outcomes = counts_are_of_outcomes _ (writer world place).calls wrote.cut.cut.pages own.room own.policy sequences (place + 2) size history histories in
@@ -137,15 +138,13 @@ module _ (scenario : Parts) (setup : Setup) (world : World) (done : IsDone scena
       }
 
 pub done_counts : (scenario : Parts) (setup : Setup) (world : World) → IsDone scenario setup world → length scenario.lines ≤ last_count
-    → IsSetUp scenario.buffers scenario.producers scenario.writers → (place : ℕ) (counts : PacketCounts) → slice_get (packet_counts scenario setup world) place ≡ Some counts
-    → CountsPackets scenario setup world place counts
-done_counts scenario setup world done few is_set_up place counts get =
-    let count = count_at (buffers_in scenario setup world) world 0 scenario.writers place counts get in
+    → IsSetUp scenario.buffers scenario.producers scenario.writers → (place : ℕ) (counts : PacketCounts) → HasNoRaw scenario.lines place
+    → slice_get (packet_counts scenario setup world) place ≡ Some counts → CountsPackets scenario setup world place counts
+done_counts scenario setup world done few is_set_up place counts none get =
+    let count = count_at scenario.lines (buffers_in scenario setup world) world 0 scenario.writers place counts get in
     let is_writer = each_is (IsWriter scenario.buffers scenario.producers) scenario.writers place count.spec is_set_up.are_writers count.get in
-    let at : 0 + place ≡ place = omega arith in
-    counted scenario setup world done few place count.spec count.get is_writer counts
-    (count.is ∙ ap (λ (p : ℕ). counts_of (buffer_at (buffers_in scenario setup world) (count.spec.buffer - 1)).policy (writer world p).calls
-    (sequence_in (buffer_at (buffers_in scenario setup world) (count.spec.buffer - 1)).sequences (sequence_of p))) at)
+    counted scenario setup world done few place count.spec count.get is_writer none counts
+    (own_counts scenario.lines (buffers_in scenario setup world) world scenario.writers place counts none count)
 
 pub every_report_counts_packets : EveryReportCountsPackets
 every_report_counts_packets scenario setup world notes played = done_counts scenario setup world (played_done scenario setup world notes played)

@@ -17,19 +17,22 @@ use Rattle.chunk_plain.specs.Histories.{history_of}
 use Rattle.world_model.specs.FirstBuffers.{payload_at}
 use Rattle.scenario_text.specs.Scenario.{Parts}
 use Rattle.scenario_text.specs.Accepted.{calls_asked}
+use Rattle.scenario_text.specs.Raws.{HasNoRaw}
 use Rattle.trace_writer.specs.Claims.{KeepsClaims}
 use Rattle.trace_writer.specs.Helping.{loses}
 use Rattle.service_core.specs.Agreement.{spec_at}
-use Rattle.replay_model.specs.Flushes.{FlushNote}
+use Rattle.replay_model.specs.ActNotes.{ActNote}
 use Rattle.replay_model.specs.Played.{IsSetupOf, IsPlayed, buffers_of}
 use Rattle.replay_model.specs.Written.{HasWritten}
 use Rattle.replay_model.proofs.AccountLemmas.{many_writers, has_written, history_in_order}
 use Rattle.replay_model.proofs.LostLemmas.{only_losers_lose}
 use Rattle.replay_model.proofs.OwnedLemmas.{HasOwned, owned_itself}
 use Rattle.replay_model.proofs.PlayedLemmas.{played_stands, setup_writers, writers_lose}
+use Rattle.replay_model.proofs.RawLemmas.{schedule_committed_none}
 
 -- The world's chunks are owned. Each writer has noted what the lines ask of it, with losses and flushes between packets, and loses a packet only if its
--- policy is to; its claims are of its producer's chunks, and its own chunks are a cut of its packets, whose pages come in order in the history.
+-- policy is to; its claims are of its producer's chunks, and its own chunks are a cut of its packets, whose pages come in order in the history,
+-- where no line commits a chunk in its name.
 pub record IsDone (scenario : Parts) (setup : Setup) (world : World) : Type 0 where
   pub setup_is : IsSetupOf scenario setup
   pub many : length world.writers ≡ length setup.writers
@@ -38,12 +41,12 @@ pub record IsDone (scenario : Parts) (setup : Setup) (world : World) : Type 0 wh
   pub loses_by : (place : ℕ) → place < length setup.writers → 0 < lost_count (packets_of (writer world place).calls) → loses (spec_at setup.writers place).policy ≡ true
   pub claims : (place : ℕ) → place < length setup.writers → KeepsClaims setup place (writer world place)
   pub wrote : (place : ℕ) → place < length setup.writers → HasWritten setup place (writer world place)
-  pub order : (place : ℕ) (inside : place < length setup.writers)
+  pub order : (place : ℕ) (inside : place < length setup.writers) → HasNoRaw scenario.lines place
       → orders.InOrder (sheets_of (newest_goes_on (packets_of (writer world place).calls)) (wrote place inside).cut.cut.pages) (place + 2) 0 false []
       (history_of world.service)
 
 -- so it is of each replay
-pub played_done : (scenario : Parts) (setup : Setup) (world : World) (notes : List FlushNote) → IsPlayed scenario setup world notes → IsDone scenario setup world
+pub played_done : (scenario : Parts) (setup : Setup) (world : World) (notes : List ActNote) → IsPlayed scenario setup world notes → IsDone scenario setup world
 played_done scenario setup world notes played =
     let h = played_stands scenario setup world notes played in
     record {
@@ -55,7 +58,9 @@ played_done scenario setup world notes played =
       loses_by = λ place inside some. only_losers_lose scenario setup (buffers_of scenario setup) world notes played.plays place some;
       claims = λ place inside. (h.0.wrote place inside).claims;
       wrote = λ place inside. has_written setup world h.1 place (h.0.wrote place inside);
-      order = λ place inside. history_in_order setup world h.1 place (h.0.wrote place inside) h.0.sorted inside;
+      order = λ place inside none.
+          history_in_order setup world h.1 place (h.0.wrote place inside) h.0.sorted inside
+          (schedule_committed_none scenario setup (buffers_of scenario setup) world notes place played.plays none);
     }
 
 module _ (scenario : Parts) (setup : Setup) (world : World) (done : IsDone scenario setup world) where
@@ -75,13 +80,13 @@ module _ (scenario : Parts) (setup : Setup) (world : World) (done : IsDone scena
       ∙ slice_get-get_or setup.writers place no_writer inside
 
   -- the account of a writer's sequence, in a buffer that has it
-  pub account_of : (place : ℕ) (inside : place < length setup.writers) (sequences : List Sequence) (record_size : ℕ)
+  pub account_of : (place : ℕ) (inside : place < length setup.writers) → HasNoRaw scenario.lines place → (sequences : List Sequence) (record_size : ℕ)
       → is_known sequences (place + 2) ≡ true → IsFresh (place + 2) record_size (sequence_in sequences (place + 2))
       → IsAccountOf (payload_at setup place) (writer world place).calls (done.wrote place inside).cut.cut.pages sequences (place + 2) record_size (history_of world.service)
-  account_of place inside sequences record_size known start = record {
+  account_of place inside none sequences record_size known start = record {
     possible = (done.wrote place inside).cut.possible;
     cut = (done.wrote place inside).cut.cut.cut;
     known = known;
     start = start;
-    order = done.order place inside;
+    order = done.order place inside none;
   }

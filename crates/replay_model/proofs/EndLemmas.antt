@@ -30,7 +30,7 @@ use Rattle.service_core.proofs.TakingLemmas.{taken_here, taken_other}
 use Rattle.replay_model.specs.Acts.{Act, Ask}
 use Rattle.service_core.specs.Told.{NoneLeft}
 use Rattle.replay_model.specs.Does.{Collects, Closes, Asks, Notes, Wrote, is_shut}
-use Rattle.replay_model.specs.Flushes.{FlushNote, flush_notes}
+use Rattle.replay_model.specs.ActNotes.{ActNote, act_notes}
 use Rattle.replay_model.specs.Plays.{Plays}
 use Rattle.replay_model.specs.Schedule.{open_places, open_producers}
 use Rattle.replay_model.proofs.ScrapedLemmas.{counted, one_held}
@@ -41,19 +41,19 @@ use Rattle.replay_model.proofs.StandsLemmas.{Stands, works_others}
 
 pub record IsSplit (setup : Setup) (buffers : List Buffer) (acts others : List Act) (old new : World) : Type 0 where
   pub mid : World
-  pub notes : List FlushNote
-  pub more : List FlushNote
+  pub notes : List ActNote
+  pub more : List ActNote
   pub first : Plays setup buffers acts old mid notes
   pub second : Plays setup buffers others mid new more
 
-pub plays_split : (setup : Setup) (buffers : List Buffer) (acts others : List Act) (old new : World) (notes : List FlushNote)
+pub plays_split : (setup : Setup) (buffers : List Buffer) (acts others : List Act) (old new : World) (notes : List ActNote)
     → Plays setup buffers (acts ++ others) old new notes → IsSplit setup buffers acts others old new
 plays_split setup buffers [] others old new notes plays = record { mid = old; notes = []; more = notes; first = (refl, refl); second = plays }
 plays_split setup buffers (act ∷ acts) others old new notes plays =
     let rest = plays_split setup buffers acts others plays.0 new plays.1 plays.5 in
     record {
       mid = rest.mid;
-      notes = flush_notes act old plays.0 ++ rest.notes;
+      notes = act_notes setup buffers act old plays.0 ++ rest.notes;
       more = rest.more;
       first = (plays.0, rest.notes, plays.2, plays.3, refl, rest.first);
       second = rest.second;
@@ -94,13 +94,13 @@ flush_keeps setup place other old new asks none = by_place (cases_eq other place
     by_place (inl same) = subst (λ (p : ℕ). held_count (writer new p).begun ≡ 0) (sym same) (flush_done setup place old new asks)
     by_place (inr differs) = ap (λ (view : WriterView). held_count view.begun) (works_others setup place old new asks.works other differs) ∙ none
 
-flushes_keep : (setup : Setup) (buffers : List Buffer) (places : List ℕ) (other : ℕ) (old new : World) (notes : List FlushNote)
+flushes_keep : (setup : Setup) (buffers : List Buffer) (places : List ℕ) (other : ℕ) (old new : World) (notes : List ActNote)
     → Plays setup buffers (map (λ place. Ask place Flushed) places) old new notes → held_count (writer old other).begun ≡ 0 → held_count (writer new other).begun ≡ 0
 flushes_keep setup buffers [] other old new notes plays none = ap (λ (w : World). held_count (writer w other).begun) plays.0 ∙ none
 flushes_keep setup buffers (place ∷ places) other old new notes plays none =
     flushes_keep setup buffers places other plays.0 new plays.1 plays.5 (flush_keeps setup place other old plays.0 plays.2 none)
 
-pub flushes_done : (setup : Setup) (buffers : List Buffer) (places : List ℕ) (place : ℕ) (old new : World) (notes : List FlushNote)
+pub flushes_done : (setup : Setup) (buffers : List Buffer) (places : List ℕ) (place : ℕ) (old new : World) (notes : List ActNote)
     → Plays setup buffers (map (λ p. Ask p Flushed) places) old new notes → Among place places → held_count (writer new place).begun ≡ 0
 flushes_done setup buffers [] place old new notes plays among = absurd among
 flushes_done setup buffers (first ∷ places) place old new notes plays (inl same) =

@@ -54,7 +54,7 @@ first_stands setup small =
         many = length-map setup.writers (λ (_ : WriterSpec). none_taken);
         level = λ p. subst (λ (t : Taken). length t.contents ≡ t.count) (sym (nothing p)) refl;
         known = tt;
-        lead = λ p inside. ap (λ (t : Taken). at_stage t.count false) (sym (nothing p));
+        lead = λ p inside none. ap (λ (t : Taken). at_stage t.count false) (sym (nothing p));
       };
       wrote = λ p inside. subst (Wrote setup p) (sym (all_same newcomer setup.writers p)) (newcomer_wrote setup p (small p));
     }

@@ -1,10 +1,9 @@
 -- A flush whose chunks were taken and read settles what its writer had emitted.
-use Rattle.std.proofs.Common.{◌≡◌, ◌∙◌, ℕ, zero, suc, ◌+◌, ◌-◌, ◌*◌, ◌<◌, ◌≤◌, Bool, true, false, List, [], ◌∷◌, ◌++◌, length, map, drop, get_or, Some, refl, sym, ap, subst, arith, inl, inr, append_assoc, append-nil, length-append}
+use Rattle.std.proofs.Common.{◌≡◌, ◌∙◌, ℕ, zero, suc, ◌+◌, ◌-◌, ◌*◌, ◌<◌, ◌≤◌, Bool, true, false, List, [], ◌∷◌, ◌++◌, length, map, get_or, Some, refl, sym, ap, subst, arith, inl, inr, cond, append_assoc, append-nil}
 use Rattle.std.specs.Prelude.{slice_get}
 use Rattle.std.proofs.lemmas.Bool.{eq-eqb}
 use Rattle.std.proofs.lemmas.List.{length-map}
-use Rattle.std.proofs.lemmas.List.Sums.{fold-append}
-use Rattle.std.proofs.lemmas.Option.{slice_get_within, slice_get-get_or, same_Some}
+use Rattle.std.proofs.lemmas.Option.{slice_get_within, slice_get-get_or}
 use Rattle.trace_base.specs.declared.policy.WriterSpec.{WriterSpec}
 use Rattle.trace_base.proofs.Lists.{some_there}
 use Rattle.page_geometry.specs.Sizes.{record_size}
@@ -12,35 +11,32 @@ use Rattle.trace_model.specs.Buffers.{Buffer, empty_buffer}
 use Rattle.trace_model.specs.Calls.{Call, Flushed}
 use Rattle.trace_model.specs.Causes.{fixed_after}
 use Rattle.trace_model.specs.Counts.{last_count}
-use Rattle.trace_model.specs.Cut.{CutsInto}
+use Rattle.trace_model.specs.Delivery.{Delivered, records_of}
 use Rattle.trace_model.specs.History as model
 use Rattle.trace_model.specs.History.{Event, state_after, buffers_after, delivered_to, reads_of}
-use Rattle.trace_model.specs.Images.{Image}
-use Rattle.trace_model.specs.Packets.{Packet, Account, packets_of, nothing_yet, noted, emissions_of, begun_count}
+use Rattle.trace_model.specs.Packets.{packets_of, emissions_of, begun_count}
 use Rattle.trace_model.specs.Pages.{Page}
 use Rattle.trace_model.specs.Reads.{Delivery}
 use Rattle.trace_model.specs.Record.{record_of}
-use Rattle.trace_model.specs.Sequences.{Sequence}
+use Rattle.trace_model.specs.Sequences.{Sequence, is_known}
 use Rattle.trace_model.specs.Written.{chains_of}
-use Rattle.trace_model.proofs.PageLemmas.{images_long}
 use Rattle.delivery_laws.specs.DeliveryLaws.{IsAccountOf}
 use Rattle.delivery_laws.specs.FlushLaws.{arrivals_of, IsFlushed, AreSettled}
-use Rattle.delivery_laws.proofs.CompleteLemmas.{full_at}
 use Rattle.delivery_laws.proofs.FlushLemmas as delivery
 use Rattle.delivery_laws.proofs.FlushLemmas.{fixed_parts, settled_still}
 use Rattle.delivery_laws.proofs.OrderLemmas.{every_writer_is_told}
-use Rattle.delivery_laws.proofs.WrittenPackets.{are_full}
 use Rattle.delivery_laws.proofs.EnoughLemmas.{emissions_few}
 use Rattle.chunk_plain.specs.Plain.{first_world}
 use Rattle.chunk_plain.specs.Setup.{Setup, sequence_of, size_of, no_writer}
-use Rattle.chunk_plain.specs.Views.{At, Completed, Content, ServiceView, taken_of, WriterView, newcomer}
+use Rattle.chunk_plain.specs.Views.{Content, ServiceView, taken_of, WriterView, newcomer}
 use Rattle.chunk_plain.specs.World.{World, writer}
 use Rattle.chunk_plain.specs.Owned.{IsOwned}
 use Rattle.chunk_plain.specs.Histories.{completed_images, history_of}
 use Rattle.chunk_plain.proofs.MadeLemmas.{first_owned}
+use Rattle.world_model.specs.Accounts.{NoneCommitted}
 use Rattle.world_model.specs.FirstBuffers.{BufferSpec, payload_at, sequences_from}
 use Rattle.world_model.proofs.MakingLemmas.{first_long, set_at}
-use Rattle.world_model.proofs.OwnLemmas.{elem_at, page_of}
+use Rattle.world_model.proofs.ProjectLemmas.{Once, once_writes}
 use Rattle.scenario_text.specs.declared.scenario.BufferLine.{BufferLine}
 use Rattle.scenario_text.specs.Scenario.{Parts}
 use Rattle.scenario_text.specs.Limits.{IsSetUp, IsWriter}
@@ -53,20 +49,19 @@ use Rattle.service_core.proofs.QuietLemmas.{grow_both}
 use Rattle.replay_model.specs.Acts.{Act, Ask, ReadAll}
 use Rattle.trace_writer.specs.Answered.{KeepsCompleted}
 use Rattle.replay_model.specs.Does.{Wrote, is_shut}
-use Rattle.replay_model.specs.Flushes.{FlushNote}
-use Rattle.replay_model.specs.FlushLaws.{begun_in, IsFlushRead, HasSettled, EveryFlushIsSettled}
+use Rattle.replay_model.specs.ActNotes.{ActNote}
+use Rattle.replay_model.specs.FlushLaws.{has_committed, known_in, IsFlushRead, HasSettled, EveryFlushIsSettled}
 use Rattle.replay_model.specs.Plays.{Plays}
-use Rattle.replay_model.specs.Played.{IsSetupOf, buffer_specs, buffers_of, first_buffer}
+use Rattle.replay_model.specs.Played.{IsSetupOf, buffer_specs, buffers_of, first_buffer, records_in}
 use Rattle.replay_model.proofs.AccountLemmas.{account_in, has_written, many_writers}
 use Rattle.replay_model.proofs.BalanceLemmas.{first_at, after_at, each_is, get_map}
-use Rattle.replay_model.proofs.EndLemmas.{flush_done}
+use Rattle.replay_model.proofs.CompleteLemmas.{once_here}
 use Rattle.replay_model.proofs.FinishLemmas.{HasRead}
 use Rattle.replay_model.proofs.FirstLemmas.{small_payload, first_stands}
-use Rattle.replay_model.proofs.OwnedLemmas.{owned_itself, learnt, named}
-use Rattle.replay_model.proofs.PageLemmas.{pages_same, begins_as}
 use Rattle.replay_model.proofs.PhaseLemmas.{history_read}
 use Rattle.replay_model.proofs.PlayedLemmas.{plays_stand, setup_writers}
 use Rattle.replay_model.proofs.PlayedOnLemmas.{plays_grow, reads_grow, HasMore, more_both, plays_more, arrivals_parts, lead_arrivals}
+use Rattle.replay_model.proofs.RawLemmas.{none_is_committed, committed_is_none}
 use Rattle.replay_model.proofs.ReadOutLemmas.{told_few, sum_all, IsFew, reads_has}
 use Rattle.replay_model.proofs.SortedLemmas.{at_stage}
 use Rattle.replay_model.proofs.StandsLemmas.{Stands, stands_does}
@@ -100,21 +95,40 @@ read_among q packets (model.Patched sequence patches ∷ events) has = absurd ha
 read_among q packets (model.Committed image patches ∷ events) has = absurd has
 read_among q packets (model.Closed sequence ∷ events) has = absurd has
 
--- the packets of all writers, as a sum over their places
-pub sum_views : (each : ℕ → ℕ) (views : List WriterView) (specs : List WriterSpec) (first : ℕ) → length views ≡ length specs
-    → ((k : ℕ) → each (first + k) ≡ begun_count (get_or views k newcomer).calls) → sum_all each first specs ≡ begun_in views
-sum_views each [] [] first long is = refl
-sum_views each [] (spec ∷ specs) first long is = absurd (omega (arith, long))
-sum_views each (view ∷ views) [] first long is = absurd (omega (arith, long))
-sum_views each (view ∷ views) (spec ∷ specs) first long is =
+-- what is known of one writer's packets
+abbrev known_of : ServiceView → List Delivered → (place : ℕ) → WriterView → ℕ
+known_of service records place view =
+    cond (has_committed service (sequence_of place)) (length (records_of (sequence_of place) records)) (begun_count view.calls)
+
+-- the packets that are known of each writer of a world
+abbrev pub known_at : World → List Delivered → (place : ℕ) → ℕ
+known_at world records place = known_of world.service records place (writer world place)
+
+-- those of all writers, as a sum over their places
+sum_from : (service : ServiceView) (records : List Delivered) (each : ℕ → ℕ) (views : List WriterView) (specs : List WriterSpec) (first : ℕ)
+    → length views ≡ length specs → ((k : ℕ) → each (first + k) ≡ known_of service records (first + k) (get_or views k newcomer))
+    → sum_all each first specs ≡ known_in service records first views
+sum_from service records each [] [] first long is = refl
+sum_from service records each [] (spec ∷ specs) first long is = absurd (omega (arith, long))
+sum_from service records each (view ∷ views) [] first long is = absurd (omega (arith, long))
+sum_from service records each (view ∷ views) (spec ∷ specs) first long is =
     let zeroth : first + 0 ≡ first = omega arith in
-    let here : each first ≡ begun_count view.calls = ap each (sym zeroth) ∙ is 0 in
-    let rest = sum_views each views specs (suc first) (omega (arith, long)) (λ k. let at : suc first + k ≡ first + suc k = omega arith in ap each at ∙ is (suc k)) in
+    let here : each first ≡ known_of service records first view = ap each (sym zeroth) ∙ is 0 ∙ ap (λ (p : ℕ). known_of service records p view) zeroth in
+    let rest = sum_from service records each views specs (suc first) (omega (arith, long))
+    (λ k. let at : suc first + k ≡ first + suc k = omega arith in
+    ap each at ∙ is (suc k) ∙ ap (λ (p : ℕ). known_of service records p (get_or views k newcomer)) (sym at)) in
     omega (arith, here, rest)
 
+pub sum_known : (world : World) (records : List Delivered) (specs : List WriterSpec) → length world.writers ≡ length specs
+    → sum_all (known_at world records) 0 specs ≡ known_in world.service records 0 world.writers
+sum_known world records specs long =
+    sum_from world.service records (known_at world records) world.writers specs 0 long
+    (λ k. let up : 0 + k ≡ k = omega arith in ap (λ (p : ℕ). known_of world.service records (0 + k) (writer world p)) up)
+
 module _ (scenario : Parts) (setup : Setup) (is_setup : IsSetupOf scenario setup) (set_up : IsSetUp scenario.buffers scenario.producers scenario.writers)
-    (acts : List Act) (asked read : World) (notes : List FlushNote) (plays : Plays setup (buffers_of scenario setup) acts (first_world setup) asked notes)
-    (place : ℕ) (inside : place < length setup.writers) (flush : IsFlushRead setup (buffers_of scenario setup) place asked read) where
+    (acts : List Act) (asked read : World) (notes : List ActNote) (plays : Plays setup (buffers_of scenario setup) acts (first_world setup) asked notes)
+    (place : ℕ) (inside : place < length setup.writers) (flush : IsFlushRead setup (buffers_of scenario setup) place asked read)
+    (none : NoneCommitted read.service (sequence_of place)) where
   abbrev buffers : List Buffer
   buffers = buffers_of scenario setup
 
@@ -244,29 +258,67 @@ module _ (scenario : Parts) (setup : Setup) (is_setup : IsSetupOf scenario setup
   history = history_of read.service
 
   account_of_writer : (p : ℕ) (low : p < length setup.writers) → (spec_at setup.writers p).buffer ≡ (spec_at setup.writers place).buffer
+      → NoneCommitted read.service (sequence_of p)
       → IsAccountOf (payload_at setup p) (writer read p).calls (at_read.wrote p low).cut.cut.pages sequences (p + 2) (record_size (size_of setup (spec_at setup.writers p).producer)) history
-  account_of_writer p low into =
+  account_of_writer p low into free =
       let set = set_at setup p (spec_at setup.writers p) (there p low) (spec_at setup.writers place).buffer in
       let own = eq-eqb (spec_at setup.writers p).buffer (spec_at setup.writers place).buffer into in
-      account_in setup read flush.owned_now p (at_read.wrote p low) at_read.sorted low sequences (record_size (size_of setup (spec_at setup.writers p).producer))
+      account_in setup read flush.owned_now p (at_read.wrote p low) at_read.sorted low free sequences (record_size (size_of setup (spec_at setup.writers p).producer))
       (set.known ∙ own) (set.start own)
 
   -- ---- the read
 
+  abbrev records : List Delivered
+  records = records_in scenario setup read
+
   abbrev each : ℕ → ℕ
-  each p = begun_count (writer read p).calls
+  each = known_at read (records_in scenario setup read)
+
+  -- of the writer itself, those that it has begun
+  each_is_own : each place ≡ begun_count (writer read place).calls
+  each_is_own =
+      ap (λ (b : Bool). cond b (length (records_of (sequence_of place) records)) (begun_count (writer read place).calls))
+      (none_is_committed read.service (sequence_of place) none)
 
   few_at : (p : ℕ) → p < length setup.writers → (spec_at setup.writers p).buffer ≡ (spec_at setup.writers place).buffer
       → IsFew first history (spec_at setup.writers place).buffer last_count each p
-  few_at p low into =
-      let account = account_of_writer p low into in
-      let told = every_writer_is_told (payload_at setup p) (writer read p).calls (at_read.wrote p low).cut.cut.pages made.size made.policy sequences (p + 2)
-      (record_size (size_of setup (spec_at setup.writers p).producer)) history account in
-      let records = told_few (emissions_of (writer read p).calls) (p + 2)
-      (map (λ (delivery : Delivery). record_of delivery.body (p + 2) delivery.marked) (delivered_to (p + 2) first history)) told in
-      let long = length-map (delivered_to (p + 2) first history) (λ (delivery : Delivery). record_of delivery.body (p + 2) delivery.marked) in
-      let emitted = emissions_few (writer read p).calls in
-      record { known = account.known; few = omega (arith, records, long, emitted) }
+  few_at p low into = record { known = known; few = by_commits (has_committed read.service (sequence_of p)) refl }
+    where
+      known : is_known sequences (p + 2) ≡ true
+      known =
+          (set_at setup p (spec_at setup.writers p) (there p low) (spec_at setup.writers place).buffer).known
+          ∙ eq-eqb (spec_at setup.writers p).buffer (spec_at setup.writers place).buffer into
+
+      long : length (map (λ (delivery : Delivery). record_of delivery.body (p + 2) delivery.marked) (delivered_to (p + 2) first history))
+          ≡ length (delivered_to (p + 2) first history)
+      long = length-map (delivered_to (p + 2) first history) (λ (delivery : Delivery). record_of delivery.body (p + 2) delivery.marked)
+
+      -- the one buffer that has the sequence
+      once : Once (p + 2) first buffers
+      once =
+          let least = is_writer.counts_buffer in
+          let number : (spec_at setup.writers p).buffer ≡ 1 + ((spec_at setup.writers place).buffer - 1) = omega (arith, into, least) in
+          subst (λ (n : ℕ). Once (p + 2) (empty_buffer made.size made.policy (sequences_from setup n 0 setup.writers)) buffers) into
+          (once_here setup p (spec_at setup.writers p) (there p low) 1 (buffer_specs scenario) ((spec_at setup.writers place).buffer - 1) made made_there number)
+
+      by_commits : (committed : Bool) → has_committed read.service (sequence_of p) ≡ committed → length (delivered_to (p + 2) first history) ≤ each p
+      by_commits true is =
+          let here : each p ≡ length (records_of (p + 2) records) =
+          ap (λ (b : Bool). cond b (length (records_of (p + 2) records)) (begun_count (writer read p).calls)) is in
+          let written = ap (λ (xs : List (List ℕ)). length xs) (once_writes (p + 2) history first buffers once) in
+          let same = long in
+          omega (arith, here, written, same)
+      by_commits false is =
+          let here : each p ≡ begun_count (writer read p).calls =
+          ap (λ (b : Bool). cond b (length (records_of (p + 2) records)) (begun_count (writer read p).calls)) is in
+          let account = account_of_writer p low into (committed_is_none read.service (sequence_of p) is) in
+          let told = every_writer_is_told (payload_at setup p) (writer read p).calls (at_read.wrote p low).cut.cut.pages made.size made.policy sequences (p + 2)
+          (record_size (size_of setup (spec_at setup.writers p).producer)) history account in
+          let few = told_few (emissions_of (writer read p).calls) (p + 2)
+          (map (λ (delivery : Delivery). record_of delivery.body (p + 2) delivery.marked) (delivered_to (p + 2) first history)) told in
+          let same = long in
+          let emitted = emissions_few (writer read p).calls in
+          omega (arith, here, few, same, emitted)
 
   abbrev so_far : List Event
   so_far = history_of flush.reading.service
@@ -277,7 +329,7 @@ module _ (scenario : Parts) (setup : Setup) (is_setup : IsSetupOf scenario setup
   history_is : history ≡ so_far ++ reads
   history_is = history_read setup buffers (spec_at setup.writers place).buffer last_count flush.reading read at_reading.0 flush.reads
 
-  module _ (few : begun_in read.writers ≤ last_count) where
+  module _ (few : known_in read.service (records_in scenario setup read) 0 read.writers ≤ last_count) where
     has_read : HasRead (place + 2) (begun_count (writer read place).calls) reads
     has_read =
         let low : (spec_at setup.writers place).buffer - 1 < length buffers =
@@ -287,19 +339,26 @@ module _ (scenario : Parts) (setup : Setup) (is_setup : IsSetupOf scenario setup
         let index : buffer_at (buffers_after buffers so_far) ((spec_at setup.writers place).buffer - 1) ≡ state_after first so_far =
         after_at buffers so_far ((spec_at setup.writers place).buffer - 1) low ∙ ap (λ (b : Buffer). state_after b so_far) first_is in
         let many = many_writers setup read flush.owned_now at_read in
-        let sum = sum_views each read.writers setup.writers 0 many (λ k. let up : 0 + k ≡ k = omega arith in ap each up) in
+        let sum = sum_known read records setup.writers many in
         let at : 0 + place ≡ place = omega arith in
-        subst (λ (p : ℕ). HasRead (p + 2) (each p) reads) at
+        subst (λ (n : ℕ). HasRead (place + 2) n reads) each_is_own
+        (subst (λ (p : ℕ). HasRead (p + 2) (each p) reads) at
         (reads_has first history (spec_at setup.writers place).buffer last_count each setup.writers 0 last_count 0 so_far []
         (buffer_at (buffers_after buffers so_far) ((spec_at setup.writers place).buffer - 1)) index
         (history_is ∙ ap (λ (es : List Event). so_far ++ es) (sym (append-nil reads))) (omega arith) (omega (arith, sum, few))
         (λ j below into. subst (λ (p : ℕ). IsFew first history (spec_at setup.writers place).buffer last_count each p) (let up : j ≡ 0 + j = omega arith in up) (few_at j below into))
-        place inside refl)
+        place inside refl))
+
+    -- nothing of its sequence had come by a commit
+    none_at_reading : NoneCommitted flush.reading.service (sequence_of place)
+    none_at_reading =
+        let grows = reads_grow setup buffers (spec_at setup.writers place).buffer last_count flush.reading read flush.reads at_reading.0 in
+        λ k one is. none k one (grows.commits k one is)
 
     come_now : length pages_then ≤ arrivals_of (place + 2) so_far
     come_now =
         let lead = lead_arrivals setup flush.reading at_reading.1 place (at_reading.0.wrote place inside) flush.reading.service.events beginning
-        (at_stage (taken_of flush.reading.service place).count (is_shut (sequence_of place) flush.reading.service.events)) (at_reading.0.sorted.lead place inside) in
+        (at_stage (taken_of flush.reading.service place).count (is_shut (sequence_of place) flush.reading.service.events)) (at_reading.0.sorted.lead place inside none_at_reading) in
         let level = at_reading.0.sorted.level place in
         let come = come_then in
         let kept = all_stay (length pages_then) come in
@@ -320,7 +379,7 @@ module _ (scenario : Parts) (setup : Setup) (is_setup : IsSetupOf scenario setup
         let account : IsAccountOf size (writer read place).calls pages_now sequences (place + 2) (record_size (size_of setup (spec_at setup.writers place).producer))
         (early ++ model.Read (place + 2) among.limit ∷ among.back) =
         subst (IsAccountOf size (writer read place).calls pages_now sequences (place + 2) (record_size (size_of setup (spec_at setup.writers place).producer))) whole
-        (account_of_writer place inside refl) in
+        (account_of_writer place inside refl none) in
         let parts = arrivals_parts (place + 2) so_far among.front in
         let come = come_now in
         let settled = delivery.every_flush_is_settled size (writer read place).calls pages_now made.size made.policy sequences (place + 2)
@@ -342,5 +401,5 @@ module _ (scenario : Parts) (setup : Setup) (is_setup : IsSetupOf scenario setup
         }
 
 pub every_flush_is_settled : EveryFlushIsSettled
-every_flush_is_settled scenario setup is_setup set_up acts asked read notes plays place inside flush few =
-    has_settled scenario setup is_setup set_up acts asked read notes plays place inside flush few
+every_flush_is_settled scenario setup is_setup set_up acts asked read notes plays place inside flush none few =
+    has_settled scenario setup is_setup set_up acts asked read notes plays place inside flush none few

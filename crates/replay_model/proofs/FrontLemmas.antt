@@ -6,7 +6,7 @@ use Rattle.std.specs.List.{AllZip}
 use Rattle.trace_base.proofs.Lists.{get_more, some_there}
 use Rattle.trace_base.specs.declared.policy.WriterSpec.{WriterSpec}
 use Rattle.trace_model.specs.Calls.{Call, Begun, Number, Bytes, Nested, Ended, GivenUp, Finished, Flushed}
-use Rattle.trace_model.specs.Delivery.{Delivered, IsFaithful, records_of}
+use Rattle.trace_model.specs.Delivery.{Delivered, IsFaithfulOf, records_of}
 use Rattle.trace_model.specs.Encoding.{number_field, bytes_field}
 use Rattle.trace_model.specs.Packets.{Packet, Account, begun_packet, on_newest, with_more, with_nested, with_nested_ended, finished_packet, noted, nothing_yet, is_writing, emissions_in, emissions_of}
 use Rattle.trace_model.specs.Tells.{Tells, TellsFrom}
@@ -22,9 +22,10 @@ use Rattle.scenario_text.specs.declared.scenario.NumberedLine.{NumberedLine}
 use Rattle.scenario_text.specs.Scenario.{Parts}
 use Rattle.scenario_text.specs.Accepted.{AreAccepted, calls_asked}
 use Rattle.scenario_text.specs.Emissions.{emitted_from, emitted_in}
+use Rattle.scenario_text.specs.Raws.{HasNoRaw}
 use Rattle.replay_model.specs.Acts.{Act, calls_in}
 use Rattle.replay_model.specs.Enough.{IsPlayable}
-use Rattle.replay_model.specs.Flushes.{FlushNote}
+use Rattle.replay_model.specs.ActNotes.{ActNote}
 use Rattle.replay_model.specs.Laws.{EveryFrontIsFaithful}
 use Rattle.replay_model.specs.Plays.{Plays}
 use Rattle.replay_model.specs.Played.{IsSetupOf, buffer_specs, buffers_of, records_in}
@@ -33,6 +34,7 @@ use Rattle.replay_model.proofs.AccountLemmas.{many_writers, standing_is_faithful
 use Rattle.replay_model.proofs.FirstLemmas.{small_payload, first_stands}
 use Rattle.replay_model.proofs.LosesLemmas.{calls_append, plays_written, schedule_writes}
 use Rattle.replay_model.proofs.PlayedLemmas.{plays_stand, setup_writers}
+use Rattle.replay_model.proofs.RawLemmas.{front_committed_none}
 
 -- ---- what is faithful to fronts is so to the whole
 
@@ -89,17 +91,17 @@ front_at (front ∷ fronts) (one ∷ wholes) (suc place) whole all there =
     let h = front_at fronts wholes place whole all.1 there in record { front = h.front; get = h.get; begins = h.begins }
 
 faithful_more : (fronts wholes : List (List (List ℕ))) (delivered : List Delivered) → AllZip IsFront fronts wholes
-    → IsFaithful fronts delivered → IsFaithful wholes delivered
-faithful_more fronts wholes delivered all faithful = record { known = known; told = told }
+    → (Own : ℕ → Type 0) → IsFaithfulOf Own fronts delivered → IsFaithfulOf Own wholes delivered
+faithful_more fronts wholes delivered all Own faithful = record { known = known; told = told }
   where
     known : All (λ (d : Delivered). (2 ≤ d.sequence) × (d.sequence < length wholes + 2)) delivered
     known = subst (λ (n : ℕ). All (λ (d : Delivered). (2 ≤ d.sequence) × (d.sequence < n + 2)) delivered) (fronts_many fronts wholes all) faithful.known
 
-    told : (place : ℕ) (packets : List (List ℕ)) → slice_get wholes place ≡ Some packets → Tells packets (place + 2) (records_of (place + 2) delivered)
-    told place packets there =
+    told : (place : ℕ) (packets : List (List ℕ)) → Own place → slice_get wholes place ≡ Some packets → Tells packets (place + 2) (records_of (place + 2) delivered)
+    told place packets own there =
         let h = front_at fronts wholes place packets all there in
         subst (λ (ps : List (List ℕ)). Tells ps (place + 2) (records_of (place + 2) delivered)) (sym h.begins.is)
-        (tells_more h.front h.begins.rest (place + 2) true 0 (records_of (place + 2) delivered) (faithful.told place h.front h.get))
+        (tells_more h.front h.begins.rest (place + 2) true 0 (records_of (place + 2) delivered) (faithful.told place h.front own h.get))
 
 -- ---- later calls change no packet that was emitted
 
@@ -250,7 +252,7 @@ each_front lines first (spec ∷ specs) (view ∷ views) many each =
           (let same : first + suc k ≡ suc first + k = omega arith in same) (each (suc k) (omega (arith, low)))),
     )
 
-module _ (scenario : Parts) (setup : Setup) (done rest : List Act) (world : World) (notes : List FlushNote) (setup_is : IsSetupOf scenario setup)
+module _ (scenario : Parts) (setup : Setup) (done rest : List Act) (world : World) (notes : List ActNote) (setup_is : IsSetupOf scenario setup)
     (playable : IsPlayable scenario) (cut : schedule_of scenario ≡ done ++ rest)
     (plays : Plays setup (buffers_of scenario setup) done (first_world setup) world notes) where
   -- what the writer at this place was asked to write is a front of what the lines ask of it
@@ -277,14 +279,19 @@ module _ (scenario : Parts) (setup : Setup) (done rest : List Act) (world : Worl
       (calls_emit (calls_asked (suc place) scenario.lines) (writer world place).calls (written_calls (calls_in done place)) (written_calls (calls_in rest place))
       accepted (asked_cut place) (noted_is place))
 
-  front_is_faithful : IsFaithful (emitted_in scenario) (records_in scenario setup world)
+  front_is_faithful : IsFaithfulOf (HasNoRaw scenario.lines) (emitted_in scenario) (records_in scenario setup world)
   front_is_faithful =
       let h = plays_stand setup (buffers_of scenario setup) done (first_world setup) world notes plays
       (first_stands setup (small_payload scenario setup setup_is)) ∣ first_owned setup ∣₁ in
       let many = many_writers setup world h.1 h.0 ∙ ap (λ (specs : List WriterSpec). length specs) (setup_writers scenario setup setup_is) in
+      let own = standing_is_faithful setup (buffer_specs scenario) world h.1 h.0 in
       faithful_more (map (λ (view : WriterView). emissions_of view.calls) world.writers) (emitted_in scenario) (records_in scenario setup world)
-      (each_front scenario.lines 1 scenario.writers world.writers many emits_front)
-      (standing_is_faithful setup (buffer_specs scenario) world h.1 h.0)
+      (each_front scenario.lines 1 scenario.writers world.writers many emits_front) (HasNoRaw scenario.lines)
+      (record {
+        known = own.known;
+        told = λ place packets none.
+            own.told place packets (front_committed_none scenario setup (buffers_of scenario setup) done rest world notes place cut plays none);
+      })
 
 pub every_front_is_faithful : EveryFrontIsFaithful
 every_front_is_faithful scenario setup done rest world notes setup_is playable cut plays =

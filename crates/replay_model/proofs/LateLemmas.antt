@@ -1,11 +1,11 @@
 -- A writer that answers behind its packet's end, and writes on, is settled too: what it had completed then is taken by the next collect.
-use Rattle.std.proofs.Common.{◌≡◌, ◌∙◌, ℕ, suc, ◌+◌, ◌<◌, ◌≤◌, ◌⊎◌, inl, inr, Bool, true, false, List, [], ◌∷◌, ◌++◌, length, refl, sym, ap, subst, arith, append_assoc, append-nil}
+use Rattle.std.proofs.Common.{◌≡◌, ◌∙◌, ℕ, suc, ◌<◌, ◌≤◌, ◌⊎◌, inl, inr, Bool, true, false, List, [], ◌∷◌, ◌++◌, length, refl, sym, ap, subst, arith, append_assoc, append-nil}
 use Rattle.std.specs.Prelude.{MatchBool}
 use Rattle.std.specs.Coded.{le_prop}
 use Rattle.std.proofs.lemmas.Bool.{cases_lt, true≢false}
 use Rattle.std.proofs.Math.Logic.{∥∥₁_elim}
 use Rattle.trace_model.specs.Buffers.{Buffer}
-use Rattle.trace_model.specs.Calls.{Call, Flushed}
+use Rattle.trace_model.specs.Calls.{Flushed}
 use Rattle.trace_model.specs.Counts.{last_count}
 use Rattle.trace_model.specs.Enough.{most_chunks}
 use Rattle.trace_model.specs.Packets.{Packet, packets_of, is_writing, emissions_in, emissions_of}
@@ -13,12 +13,13 @@ use Rattle.model_laws.specs.Losses.{HasShapeOf}
 use Rattle.model_laws.proofs.LossLemmas.{losses_change_no_shape}
 use Rattle.chunk_plain.specs.declared.tokens.TheConstants.{POSITION_LIMIT}
 use Rattle.chunk_plain.specs.Plain.{first_world}
-use Rattle.chunk_plain.specs.Setup.{Setup, producer_of}
+use Rattle.chunk_plain.specs.Setup.{Setup, producer_of, sequence_of}
 use Rattle.chunk_plain.specs.Views.{At, Completed, Content, taken_of}
 use Rattle.chunk_plain.specs.World.{World, writer}
 use Rattle.chunk_plain.specs.Owned.{IsOwned}
 use Rattle.chunk_plain.specs.Histories.{completed_images}
 use Rattle.chunk_plain.proofs.MadeLemmas.{first_owned}
+use Rattle.world_model.specs.Accounts.{NoneCommitted}
 use Rattle.world_model.specs.FirstBuffers.{payload_at}
 use Rattle.scenario_text.specs.declared.scenario.NumberedLine.{NumberedLine}
 use Rattle.scenario_text.specs.declared.scenario.LineKind.{LineKind}
@@ -26,14 +27,14 @@ use Rattle.scenario_text.specs.declared.scenario.LineKind.TheVariants as line
 use Rattle.scenario_text.specs.Scenario.{Parts}
 use Rattle.scenario_text.specs.Accepted.{calls_asked, line_calls}
 use Rattle.scenario_text.specs.Limits.{IsSetUp}
+use Rattle.scenario_text.specs.Raws.{HasNoRaw}
 use Rattle.service_core.specs.Agreement.{spec_at}
 use Rattle.replay_model.specs.Acts.{Act, Answer, Collect, ReadAll, asks}
-use Rattle.trace_writer.specs.Answered.{KeepsCompleted}
 use Rattle.replay_model.specs.Does.{Asks, Collects, Wrote}
-use Rattle.replay_model.specs.Flushes.{FlushNote}
-use Rattle.replay_model.specs.FlushLaws.{begun_in, IsFlushRead, HasSettled, EveryLateAnswerIsSettled}
+use Rattle.replay_model.specs.ActNotes.{ActNote}
+use Rattle.replay_model.specs.FlushLaws.{AreFew, known_in, IsFlushRead, HasSettled, EveryLateAnswerIsSettled}
 use Rattle.replay_model.specs.Plays.{Plays}
-use Rattle.replay_model.specs.Played.{IsSetupOf, buffers_of}
+use Rattle.replay_model.specs.Played.{IsSetupOf, buffers_of, records_in}
 use Rattle.replay_model.specs.Schedule.{acts_of, acts_from, answers_late, is_due}
 use Rattle.replay_model.proofs.EndLemmas.{IsSplit, plays_split, flush_done, own_at}
 use Rattle.replay_model.proofs.FlushLemmas.{every_flush_is_settled}
@@ -42,7 +43,8 @@ use Rattle.replay_model.proofs.LosesLemmas.{lines_lose}
 use Rattle.replay_model.proofs.PlayLemmas.{plays_both}
 use Rattle.replay_model.proofs.PlayedLemmas.{plays_stand}
 use Rattle.replay_model.proofs.PlayedOnLemmas.{flush_packets, flush_calls}
-use Rattle.replay_model.proofs.RequestLemmas.{lines_split, match_false, flushed_few, large, begun_few}
+use Rattle.replay_model.proofs.RawLemmas.{lines_committed_none}
+use Rattle.replay_model.proofs.RequestLemmas.{lines_split, flushed_few, large, known_few}
 use Rattle.replay_model.proofs.ScrapedLemmas.{counted}
 use Rattle.replay_model.proofs.StaysLemmas.{completed_at, plays_keeps}
 
@@ -68,7 +70,7 @@ collect_meets setup place many old new owned inside wrote collects there few =
 -- ---- the lines
 
 module _ (scenario : Parts) (setup : Setup) (is_setup : IsSetupOf scenario setup) (set_up : IsSetUp scenario.buffers scenario.producers scenario.writers)
-    (before between onward : List NumberedLine) (end collect last : NumberedLine) (world : World) (notes : List FlushNote)
+    (before between onward : List NumberedLine) (end collect last : NumberedLine) (world : World) (notes : List ActNote)
     (plays : Plays setup (buffers_of scenario setup) (acts_from scenario [] (before ++ (end ∷ (between ++ (collect ∷ (onward ++ (last ∷ []))))))) (first_world setup) world notes)
     (place : ℕ) (inside : place < length setup.writers) (end_is : end.what ≡ line.End (suc place)) (due : is_due (suc place) before ≡ true)
     (collect_is : collect.what ≡ line.Collect (producer_of setup place)) (last_is : last.what ≡ line.Read (spec_at setup.writers place).buffer last_count) where
@@ -225,21 +227,26 @@ module _ (scenario : Parts) (setup : Setup) (is_setup : IsSetupOf scenario setup
       owned_now = going.second.3;
     }
 
-    pub late_settled : length (before ++ (end ∷ (between ++ (collect ∷ (onward ++ (last ∷ [])))))) ≤ last_count
-        → (at : World) × (earlier : List FlushNote)
+    pub late_settled : AreFew scenario (before ++ (end ∷ (between ++ (collect ∷ (onward ++ (last ∷ [])))))) (records_in scenario setup world)
+        → HasNoRaw (before ++ (end ∷ (between ++ (collect ∷ (onward ++ (last ∷ [])))))) place
+        → (at : World) × (earlier : List ActNote)
         × Plays setup (buffers_of scenario setup) (acts_from scenario [] before ++ asks place (line_calls (suc place) (line.End (suc place)))) (first_world setup) at earlier
         × HasSettled scenario setup place at world
-    late_settled few_lines =
-        let begun = begun_few scenario setup is_setup set_up place inside (before ++ (end ∷ (between ++ (collect ∷ (onward ++ (last ∷ [])))))) world notes plays in
+    late_settled few_lines none =
+        let known = known_few scenario setup is_setup set_up place inside (before ++ (end ∷ (between ++ (collect ∷ (onward ++ (last ∷ [])))))) world notes plays in
         let is : world ≡ going.second.0 = going.second.5.0 in
-        let few : begun_in going.second.0.writers ≤ last_count = subst (λ (w : World). begun_in w.writers ≤ last_count) is (omega (arith, begun, few_lines)) in (
+        let free : NoneCommitted going.second.0.service (sequence_of place) =
+        subst (λ (w : World). NoneCommitted w.service (sequence_of place)) is
+        (lines_committed_none scenario setup buffers (before ++ (end ∷ (between ++ (collect ∷ (onward ++ (last ∷ [])))))) world notes place plays none) in
+        let few : known_in going.second.0.service (records_in scenario setup going.second.0) 0 going.second.0.writers ≤ last_count =
+        subst (λ (w : World). known_in w.service (records_in scenario setup w) 0 w.writers ≤ last_count) is (omega (arith, known, few_lines)) in (
           answer.mid,
           answer.notes,
           answer.first,
           subst (HasSettled scenario setup place answer.mid) (sym is)
-              (every_flush_is_settled scenario setup is_setup set_up first_acts answer.mid going.second.0 answer.notes answer.first place inside flush few),
+              (every_flush_is_settled scenario setup is_setup set_up first_acts answer.mid going.second.0 answer.notes answer.first place inside flush free few),
         )
 
 pub every_late_answer_is_settled : EveryLateAnswerIsSettled
-every_late_answer_is_settled scenario setup is_setup set_up before between onward end collect last world notes plays place inside end_is due collect_is last_is few_lines ended few_ids =
-    late_settled scenario setup is_setup set_up before between onward end collect last world notes plays place inside end_is due collect_is last_is ended few_ids few_lines
+every_late_answer_is_settled scenario setup is_setup set_up before between onward end collect last world notes plays place inside end_is due collect_is last_is few_lines none ended few_ids =
+    late_settled scenario setup is_setup set_up before between onward end collect last world notes plays place inside end_is due collect_is last_is ended few_ids few_lines none

@@ -22,11 +22,13 @@ pub mod PigeonLemmas
 pub mod PlayLemmas
 pub mod PlayedLemmas
 pub mod PlayedOnLemmas
+pub mod RawLemmas
 pub mod ReadOutLemmas
 pub mod ReplayLemmas
 pub mod RequestLemmas
 pub mod RoomLemmas
 pub mod ScrapedLemmas
+pub mod ShutLemmas
 pub mod SortedLemmas
 pub mod SpecLemmas
 pub mod StandsLemmas

@@ -16,13 +16,14 @@ use Rattle.scenario_text.specs.declared.scenario.BufferLine.{BufferLine}
 use Rattle.scenario_text.specs.declared.scenario.NumberedLine.{NumberedLine}
 use Rattle.scenario_text.specs.declared.scenario.LineKind.{LineKind}
 use Rattle.scenario_text.specs.declared.scenario.LineKind.TheVariants as line
+use Rattle.scenario_text.specs.RawChunks.{AskedChunk}
 use Rattle.scenario_text.specs.Scenario.{Parts}
 use Rattle.scenario_text.specs.Accepted.{line_calls, calls_asked, if_own, node_call}
-use Rattle.replay_model.specs.Acts.{Act, Ask, Request, Answer, Collect, Scrape, CloseProducer, ReadAll, asks, calls_at, calls_in}
+use Rattle.replay_model.specs.Acts.{Act, Ask, Request, Answer, Collect, Scrape, CloseProducer, ReadAll, CommitRaw, asks, calls_at, calls_in}
 use Rattle.replay_model.specs.Does.{Does, Asks, Notes, dropped_call}
-use Rattle.replay_model.specs.Flushes.{FlushNote}
+use Rattle.replay_model.specs.ActNotes.{ActNote}
 use Rattle.replay_model.specs.Plays.{Plays}
-use Rattle.replay_model.specs.Schedule.{schedule_of, acts_of, acts_from, last_acts, reads_from, asked_of, answers_late, open_places, open_producers, is_due}
+use Rattle.replay_model.specs.Schedule.{schedule_of, acts_of, acts_from, last_acts, reads_from, asked_of, answers_late, commits_of, open_places, open_producers, is_due}
 use Rattle.replay_model.proofs.StandsLemmas.{works_others}
 
 -- ---- calls one behind another
@@ -93,8 +94,9 @@ does_written setup buffers (Collect producer) old new place does = same_writers 
 does_written setup buffers (Scrape producer) old new place does = same_writers old new place does.writers
 does_written setup buffers (CloseProducer producer) old new place does = same_writers old new place does.writers
 does_written setup buffers (ReadAll buffer limit) old new place does = same_writers old new place does.writers
+does_written setup buffers (CommitRaw other chunk) old new place does = same_writers old new place does.writers
 
-pub plays_written : (setup : Setup) (buffers : List Buffer) (acts : List Act) (old new : World) (notes : List FlushNote) (place : ℕ) → Plays setup buffers acts old new notes
+pub plays_written : (setup : Setup) (buffers : List Buffer) (acts : List Act) (old new : World) (notes : List ActNote) (place : ℕ) → Plays setup buffers acts old new notes
     → written_calls (writer new place).calls ≡ written_calls (writer old place).calls ++ written_calls (calls_in acts place)
 plays_written setup buffers [] old new notes place plays = same_writer old new place (ap (λ (w : World). writer w place) plays.0)
 plays_written setup buffers (act ∷ acts) old new notes place plays =
@@ -161,6 +163,10 @@ reads_none : (number : ℕ) (buffers : List BufferLine) (place : ℕ) → calls_
 reads_none number [] place = refl
 reads_none number (buffer ∷ buffers) place = reads_none (suc number) buffers place
 
+commits_none : (writer place : ℕ) (chunk : AskedChunk) → calls_in (commits_of writer chunk) place ≡ []
+commits_none zero place chunk = refl
+commits_none (suc other) place chunk = refl
+
 -- the acts of a line ask a writer what the line does
 line_asks : (scenario : Parts) (before : List NumberedLine) (kind : LineKind) (place : ℕ) → calls_in (acts_of scenario before kind) place ≡ line_calls (suc place) kind
 unfolding line_calls
@@ -184,6 +190,7 @@ line_asks scenario before line.Request place =
     ∙ ap (λ (cs : List Call). cs ++ calls_in (map Collect (open_producers before 1 scenario.producers)) place) (answers_none (open_places before 0 scenario.writers) place)
     ∙ collects_none (open_producers before 1 scenario.producers) place
 line_asks scenario before (line.CloneBuffer buffer) place = refl
+line_asks scenario before (line.Raw writer chunk) place = commits_none writer place chunk
 
 lines_ask : (scenario : Parts) (before lines : List NumberedLine) (place : ℕ) → calls_in (acts_from scenario before lines) place ≡ calls_asked (suc place) lines
 lines_ask scenario before [] place = refl
@@ -229,7 +236,7 @@ schedule_writes scenario place =
     ∙ ap written_calls (lines_ask scenario [] scenario.lines place)
 
 -- behind the acts of these lines, from the first world on, each writer has noted what they ask of it, but for losses and flushes
-pub lines_lose : (scenario : Parts) (setup : Setup) (buffers : List Buffer) (lines : List NumberedLine) (world : World) (notes : List FlushNote)
+pub lines_lose : (scenario : Parts) (setup : Setup) (buffers : List Buffer) (lines : List NumberedLine) (world : World) (notes : List ActNote)
     → Plays setup buffers (acts_from scenario [] lines) (first_world setup) world notes → (place : ℕ) → Loses (calls_asked (suc place) lines) (writer world place).calls
 lines_lose scenario setup buffers lines world notes plays place =
     plays_written setup buffers (acts_from scenario [] lines) (first_world setup) world notes place plays
@@ -237,7 +244,7 @@ lines_lose scenario setup buffers lines world notes plays place =
     ∙ ap written_calls (lines_ask scenario [] lines place)
 
 -- behind a schedule each writer has noted what the lines ask of it, but for losses and flushes
-pub schedule_loses : (scenario : Parts) (setup : Setup) (buffers : List Buffer) (world : World) (notes : List FlushNote)
+pub schedule_loses : (scenario : Parts) (setup : Setup) (buffers : List Buffer) (world : World) (notes : List ActNote)
     → Plays setup buffers (schedule_of scenario) (first_world setup) world notes → (place : ℕ)
     → Loses (calls_asked (suc place) scenario.lines) (writer world place).calls
 schedule_loses scenario setup buffers world notes plays place =

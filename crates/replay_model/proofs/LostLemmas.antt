@@ -1,14 +1,20 @@
 -- Only a writer whose policy is to drop, at once or behind asks, loses packets.
-use Rattle.std.proofs.Common.{◌≡◌, ◌∙◌, ℕ, zero, suc, ◌<◌, ◌⊎◌, Bool, true, false, not, ◌||◌, is_some, List, [], ◌∷◌, ◌++◌, length, map, get_or, filter, Option, Some, None, refl, sym, ap, subst, arith, inl, inr, cond}
+use Rattle.std.proofs.Common.{◌≡◌, ◌∙◌, ℕ, zero, suc, ◌<◌, ◌⊎◌, Bool, true, false, not, ◌&&◌, ◌||◌, is_some, List, [], ◌∷◌, ◌++◌, length, map, reverse, get_or, filter, Option, Some, None, refl, sym, ap, subst, arith, inl, inr, cond}
 use Rattle.std.specs.Prelude.{◌==◌, MatchBool}
 use Rattle.std.proofs.lemmas.Bool.{cases_eq, false≢true}
+use Rattle.std.proofs.lemmas.Grind.{reverse_onto}
+use Rattle.std.proofs.lemmas.List.{map-append}
 use Rattle.std.proofs.lemmas.List.Sums.{fold-append}
 use Rattle.trace_model.specs.Buffers.{Buffer}
 use Rattle.trace_model.specs.Calls.{Call, Begun, Number, Bytes, Nested, Ended, GivenUp, Finished, Flushed}
 use Rattle.trace_model.specs.Encoding.{number_field, bytes_field}
-use Rattle.trace_model.specs.Packets.{Packet, Text, Account, noted, nothing_yet, account_of, packets_of, is_lost, is_writing, on_newest, begun_packet, with_more, with_nested, with_nested_ended, finished_packet, lost_count}
+use Rattle.trace_model.specs.Packets.{Packet, Text, Account, noted, nothing_yet, account_of, packets_of, body_of, bodies_of, front_of, packet_encoding, emissions_in, emissions_of, newest_is_lost, is_lost, is_writing, on_newest, begun_packet, with_more, with_nested, with_nested_ended, finished_packet, lost_count}
+use Rattle.trace_model.specs.PacketLaws.{AreFronted}
+use Rattle.trace_model.specs.Record.{mark_where}
+use Rattle.trace_model.proofs.PacketLemmas.{packets_are_fronted, emitted_more}
 use Rattle.model_laws.proofs.TextSizes.{AllFinished}
 use Rattle.delivery_laws.specs.Finishing.{AllWhole}
+use Rattle.delivery_laws.proofs.WholeLemmas.{all_kept}
 use Rattle.field_tree.specs.declared.node.FieldNode.TheVariants as node
 use Rattle.field_tree.specs.Nodes.{Shown}
 use Rattle.chunk_plain.specs.Setup.{Setup}
@@ -20,14 +26,15 @@ use Rattle.scenario_text.specs.declared.scenario.BufferLine.{BufferLine}
 use Rattle.scenario_text.specs.declared.scenario.NumberedLine.{NumberedLine}
 use Rattle.scenario_text.specs.declared.scenario.LineKind.{LineKind}
 use Rattle.scenario_text.specs.declared.scenario.LineKind.TheVariants as line
+use Rattle.scenario_text.specs.RawChunks.{AskedChunk}
 use Rattle.scenario_text.specs.Scenario.{Parts}
 use Rattle.scenario_text.specs.Accepted.{line_calls, node_call}
 use Rattle.trace_writer.specs.Helping.{loses}
-use Rattle.replay_model.specs.Acts.{Act, Ask, Request, Answer, Collect, Scrape, CloseProducer, ReadAll, asks}
+use Rattle.replay_model.specs.Acts.{Act, Ask, Request, Answer, Collect, Scrape, CloseProducer, ReadAll, CommitRaw, asks}
 use Rattle.replay_model.specs.Does.{Asks, Notes, policy_of}
-use Rattle.replay_model.specs.Flushes.{FlushNote}
+use Rattle.replay_model.specs.ActNotes.{ActNote}
 use Rattle.replay_model.specs.Plays.{Plays}
-use Rattle.replay_model.specs.Schedule.{schedule_of, acts_of, acts_from, last_acts, reads_from, asked_of, answers_late, open_places, open_producers, is_due}
+use Rattle.replay_model.specs.Schedule.{schedule_of, acts_of, acts_from, last_acts, reads_from, asked_of, answers_late, commits_of, open_places, open_producers, is_due}
 use Rattle.replay_model.proofs.StandsLemmas.{works_others}
 
 -- ---- calls that lose nothing
@@ -86,6 +93,7 @@ KeepAll (Collect producer ∷ acts) = KeepAll acts
 KeepAll (Scrape producer ∷ acts) = KeepAll acts
 KeepAll (CloseProducer producer ∷ acts) = KeepAll acts
 KeepAll (ReadAll buffer limit ∷ acts) = KeepAll acts
+KeepAll (CommitRaw place chunk ∷ acts) = KeepAll acts
 
 -- each writer that lost a packet is one whose policy loses packets
 abbrev OnlyLosersLose : Setup → World → Type 0
@@ -116,7 +124,7 @@ answer_keep : (setup : Setup) (place : ℕ) (old new : World) (b : Bool) → Mat
 answer_keep setup place old new true same only = subst (OnlyLosersLose setup) (sym same) only
 answer_keep setup place old new false asks only = asks_keep setup place Flushed old new asks refl only
 
-plays_keep_all : (setup : Setup) (buffers : List Buffer) (acts : List Act) (old new : World) (notes : List FlushNote) → KeepAll acts → Plays setup buffers acts old new notes
+plays_keep_all : (setup : Setup) (buffers : List Buffer) (acts : List Act) (old new : World) (notes : List ActNote) → KeepAll acts → Plays setup buffers acts old new notes
     → OnlyLosersLose setup old → OnlyLosersLose setup new
 plays_keep_all setup buffers [] old new notes keep plays only = subst (OnlyLosersLose setup) (sym plays.0) only
 plays_keep_all setup buffers (Ask place call ∷ acts) old new notes keep plays only =
@@ -134,6 +142,8 @@ plays_keep_all setup buffers (CloseProducer producer ∷ acts) old new notes kee
     plays_keep_all setup buffers acts plays.0 new plays.1 keep plays.5 (same_keep setup old plays.0 plays.2.writers only)
 plays_keep_all setup buffers (ReadAll buffer limit ∷ acts) old new notes keep plays only =
     plays_keep_all setup buffers acts plays.0 new plays.1 keep plays.5 (same_keep setup old plays.0 plays.2.writers only)
+plays_keep_all setup buffers (CommitRaw place chunk ∷ acts) old new notes keep plays only =
+    plays_keep_all setup buffers acts plays.0 new plays.1 keep plays.5 (same_keep setup old plays.0 plays.2.writers only)
 
 -- ---- those of a schedule
 
@@ -146,6 +156,7 @@ keep_append (Collect producer ∷ xs) ys one two = keep_append xs ys one two
 keep_append (Scrape producer ∷ xs) ys one two = keep_append xs ys one two
 keep_append (CloseProducer producer ∷ xs) ys one two = keep_append xs ys one two
 keep_append (ReadAll buffer limit ∷ xs) ys one two = keep_append xs ys one two
+keep_append (CommitRaw place chunk ∷ xs) ys one two = keep_append xs ys one two
 
 abbrev KeepCalls : List Call → Type 0
 KeepCalls [] = Unit {0}
@@ -200,6 +211,10 @@ keep_flushes : (places : List ℕ) → KeepAll (map (λ place. Ask place Flushed
 keep_flushes [] = tt
 keep_flushes (place ∷ places) = (refl, keep_flushes places)
 
+keep_commits : (number : ℕ) (chunk : AskedChunk) → KeepAll (commits_of number chunk)
+keep_commits zero chunk = tt
+keep_commits (suc place) chunk = tt
+
 keep_line : (scenario : Parts) (before : List NumberedLine) (kind : LineKind) → KeepAll (acts_of scenario before kind)
 unfolding line_calls
 keep_line scenario before (line.Packet writer fields) =
@@ -221,6 +236,7 @@ keep_line scenario before line.Request =
     keep_append (map Answer (open_places before 0 scenario.writers)) (map Collect (open_producers before 1 scenario.producers))
     (keep_answers (open_places before 0 scenario.writers)) (keep_collects (open_producers before 1 scenario.producers))
 keep_line scenario before (line.CloneBuffer buffer) = tt
+keep_line scenario before (line.Raw writer chunk) = keep_commits writer chunk
 
 keep_lines : (scenario : Parts) (before lines : List NumberedLine) → KeepAll (acts_from scenario before lines)
 keep_lines scenario before [] = tt
@@ -237,7 +253,7 @@ keep_end scenario =
     (keep_append flushes (map Collect producers) (keep_flushes (open_places scenario.lines 0 scenario.writers)) (keep_collects producers)) (keep_closes producers))
     (keep_reads 1 scenario.buffers)
 
-pub only_losers_lose : (scenario : Parts) (setup : Setup) (buffers : List Buffer) (world : World) (notes : List FlushNote)
+pub only_losers_lose : (scenario : Parts) (setup : Setup) (buffers : List Buffer) (world : World) (notes : List ActNote)
     → Plays setup buffers (schedule_of scenario) (first_world setup) world notes → (place : ℕ) → 0 < lost_count (packets_of (writer world place).calls)
     → loses (policy_of setup place) ≡ true
 only_losers_lose scenario setup buffers world notes plays =
@@ -268,3 +284,27 @@ all_whole (packet ∷ older) none finished = step packet.kept packet.given_up re
         let lost : is_lost packet ≡ true = ap (λ (b : Bool). not b || is_some packet.given_up) kept_is in
         let some : suc (lost_count older) ≡ 0 = sym (ap (λ (b : Bool). length (cond b (packet ∷ filter is_lost older) (filter is_lost older))) lost) ∙ none in
         absurd (omega (arith, some))
+
+-- What is emitted of whole packets is their bodies: none has a mark in front.
+bodies_whole : (packets : List Packet) → AllWhole packets → AreFronted packets → map body_of (reverse packets) ≡ emissions_in packets
+bodies_whole [] whole fronted = refl
+bodies_whole (packet ∷ older) whole fronted =
+    let follows : packet.follows_loss ≡ false = fronted.0 ∙ none_newest older whole.3 in
+    let front : front_of packet ≡ [] =
+    ap (λ (b : Bool). mark_where (packet.kept && b)) follows ∙ ap (λ (b : Bool). mark_where (b && false)) whole.0 in
+    let body : body_of packet ≡ packet_encoding packet = fronted.1 ∙ ap (λ (xs : List ℕ). xs ++ packet_encoding packet) front in
+    ap (map body_of) (reverse_onto older packet [])
+    ∙ map-append body_of (reverse older) (packet ∷ [])
+    ∙ ap (λ (xs : List (List ℕ)). xs ++ body_of packet ∷ []) (bodies_whole older whole.3 fronted.2)
+    ∙ ap (λ (xs : List ℕ). emissions_in older ++ xs ∷ []) body
+    ∙ sym (emitted_more packet older true whole.2)
+  where
+    none_newest : (packets : List Packet) → AllWhole packets → newest_is_lost packets ≡ false
+    none_newest [] whole = refl
+    none_newest (packet ∷ older) whole =
+        ap (λ (b : Bool). not b || is_some packet.given_up) whole.0 ∙ ap (λ (o : Option Text). is_some o) whole.1
+
+pub bodies_emitted : (calls : List Call) → AllWhole (packets_of calls) → bodies_of calls ≡ emissions_of calls
+bodies_emitted calls whole =
+    ap (λ (ps : List Packet). map body_of (reverse ps)) (all_kept (packets_of calls) whole)
+    ∙ bodies_whole (packets_of calls) whole (packets_are_fronted calls)

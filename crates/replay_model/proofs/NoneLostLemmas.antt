@@ -66,7 +66,7 @@ module _ (scenario : Parts) (setup : Setup) (world : World) (done : IsDone scena
         let least = is.counts_producer in
         let low = slice_get_within scenario.producers (spec.producer - 1) is.of_producer is.producer_is in
         subst (λ (n : ℕ). is_closed_by scenario.lines n ≡ false) (let at : 1 + (spec.producer - 1) ≡ spec.producer = omega (arith, least) in at)
-        (none_closed scenario.lines 1 scenario.producers (spec.producer - 1) enough.none_closed low)
+        (none_closed scenario.lines 1 scenario.producers (spec.producer - 1) enough.enough.none_closed low)
 
     pub rests : is_writing (packets_of (writer world place).calls) ≡ false
     rests =
@@ -188,7 +188,7 @@ module _ (scenario : Parts) (setup : Setup) (world : World) (done : IsDone scena
         let is = is_writer place spec get in
         let payload : ℕ = payload_size is.of_producer.page_size is.of_producer.chunks in
         let producer : ℕ = producer_of setup place in
-        let room = chunks_enough scenario.lines scenario.producers scenario.writers place spec is.of_producer enough.chunks get losing is.counts_producer is.producer_is in
+        let room = chunks_enough scenario.lines scenario.producers scenario.writers place spec is.of_producer enough.enough.chunks get losing is.counts_producer is.producer_is in
         let count : (range_of setup producer).count ≡ is.of_producer.pages * is.of_producer.chunks =
         ap (λ (s : Setup). (range_of s producer).count) done.setup_is.laid
         ∙ count_is scenario.producers done.setup_is.specs 0 (producer - 1) is.of_producer done.setup_is.made is.producer_is in

@@ -21,7 +21,7 @@ use Rattle.service_core.proofs.CloseLemmas.{noted_grows}
 use Rattle.service_core.proofs.HistoryLemmas.{history_stays}
 use Rattle.replay_model.specs.Acts.{Collect, CloseProducer, ReadAll}
 use Rattle.replay_model.specs.Does.{Collects, Closes, Reads, is_shut}
-use Rattle.replay_model.specs.Flushes.{FlushNote}
+use Rattle.replay_model.specs.ActNotes.{ActNote}
 use Rattle.replay_model.specs.Plays.{Plays}
 use Rattle.replay_model.specs.Schedule.{reads_from}
 use Rattle.replay_model.proofs.EndLemmas.{begun_same, IsTakenWhole, collects_whole, closes_whole, collect_takes, closes_shut, closes_shut_still}
@@ -30,14 +30,14 @@ use Rattle.replay_model.proofs.StandsLemmas.{Stands, stands_does}
 
 -- ---- collects
 
-collects_keep : (setup : Setup) (buffers : List Buffer) (producers : List ℕ) (place : ℕ) (old new : World) (notes : List FlushNote)
+collects_keep : (setup : Setup) (buffers : List Buffer) (producers : List ℕ) (place : ℕ) (old new : World) (notes : List ActNote)
     → Plays setup buffers (map Collect producers) old new notes → Stands setup old → IsTakenWhole old place → IsTakenWhole new place
 collects_keep setup buffers [] place old new notes plays stands whole = subst (λ (w : World). IsTakenWhole w place) (sym plays.0) whole
 collects_keep setup buffers (producer ∷ producers) place old new notes plays stands whole =
     collects_keep setup buffers producers place plays.0 new plays.1 plays.5 (stands_does setup buffers (Collect producer) old plays.0 plays.2 plays.3 stands)
     (collects_whole setup producer place old plays.0 stands plays.2 whole)
 
-pub collect_phase : (setup : Setup) (buffers : List Buffer) (producers : List ℕ) (place : ℕ) (old new : World) (notes : List FlushNote)
+pub collect_phase : (setup : Setup) (buffers : List Buffer) (producers : List ℕ) (place : ℕ) (old new : World) (notes : List ActNote)
     → Plays setup buffers (map Collect producers) old new notes → Stands setup old → place < length setup.writers → Among (producer_of setup place) producers
     → held_count (writer old place).begun ≡ 0 → length (writer old place).begun ≤ POSITION_LIMIT → IsTakenWhole new place
 collect_phase setup buffers [] place old new notes plays stands inside among empty few = absurd among
@@ -66,21 +66,21 @@ collect_phase setup buffers (producer ∷ producers) place old new notes plays s
 
 -- ---- closes
 
-pub closes_keep : (setup : Setup) (buffers : List Buffer) (producers : List ℕ) (place : ℕ) (old new : World) (notes : List FlushNote)
+pub closes_keep : (setup : Setup) (buffers : List Buffer) (producers : List ℕ) (place : ℕ) (old new : World) (notes : List ActNote)
     → Plays setup buffers (map CloseProducer producers) old new notes → Stands setup old → IsTakenWhole old place → IsTakenWhole new place
 closes_keep setup buffers [] place old new notes plays stands whole = subst (λ (w : World). IsTakenWhole w place) (sym plays.0) whole
 closes_keep setup buffers (producer ∷ producers) place old new notes plays stands whole =
     closes_keep setup buffers producers place plays.0 new plays.1 plays.5 (stands_does setup buffers (CloseProducer producer) old plays.0 plays.2 plays.3 stands)
     (closes_whole setup producer place old plays.0 stands plays.2 whole)
 
-shut_keep : (setup : Setup) (buffers : List Buffer) (producers : List ℕ) (q : ℕ) (old new : World) (notes : List FlushNote)
+shut_keep : (setup : Setup) (buffers : List Buffer) (producers : List ℕ) (q : ℕ) (old new : World) (notes : List ActNote)
     → Plays setup buffers (map CloseProducer producers) old new notes → Stands setup old → is_shut q old.service.events ≡ true → is_shut q new.service.events ≡ true
 shut_keep setup buffers [] q old new notes plays stands shut = ap (λ (w : World). is_shut q w.service.events) plays.0 ∙ shut
 shut_keep setup buffers (producer ∷ producers) q old new notes plays stands shut =
     shut_keep setup buffers producers q plays.0 new plays.1 plays.5 (stands_does setup buffers (CloseProducer producer) old plays.0 plays.2 plays.3 stands)
     (closes_shut_still setup producer q old plays.0 stands plays.2 shut)
 
-pub close_phase : (setup : Setup) (buffers : List Buffer) (producers : List ℕ) (place : ℕ) (old new : World) (notes : List FlushNote)
+pub close_phase : (setup : Setup) (buffers : List Buffer) (producers : List ℕ) (place : ℕ) (old new : World) (notes : List ActNote)
     → Plays setup buffers (map CloseProducer producers) old new notes → Stands setup old → place < length setup.writers → Among (producer_of setup place) producers
     → is_shut (sequence_of place) new.service.events ≡ true
 close_phase setup buffers [] place old new notes plays stands inside among = absurd among
@@ -152,7 +152,7 @@ history_read setup buffers buffer limit old new stands reads =
     ∙ ap (λ (es : List Event). history_of old.service ++ es)
     (reads_happen view events (reads_are_reads limit (buffer_at (buffers_after buffers (history_of old.service)) (buffer - 1)) (sequences_to buffer 0 setup.writers)))
 
-pub read_phase : (setup : Setup) (buffers : List Buffer) (number : ℕ) (lines : List BufferLine) (old new : World) (notes : List FlushNote)
+pub read_phase : (setup : Setup) (buffers : List Buffer) (number : ℕ) (lines : List BufferLine) (old new : World) (notes : List ActNote)
     → Plays setup buffers (reads_from number lines) old new notes → Stands setup old → IsReadOut setup buffers number lines old new
 read_phase setup buffers number [] old new notes plays stands = record {
   events = [];

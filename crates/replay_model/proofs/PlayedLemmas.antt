@@ -2,7 +2,7 @@
 use Rattle.std.proofs.Common.{◌≡◌, ◌∙◌, ℕ, suc, ◌+◌, ◌<◌, List, [], ◌∷◌, length, map, get_or, refl, sym, ap, subst, arith}
 use Rattle.trace_base.specs.declared.policy.WriterSpec.{WriterSpec}
 use Rattle.trace_model.specs.Buffers.{Buffer}
-use Rattle.trace_model.specs.Delivery.{IsFaithful}
+use Rattle.trace_model.specs.Delivery.{IsFaithfulOf}
 use Rattle.trace_model.specs.Packets.{emissions_of}
 use Rattle.model_laws.proofs.LossLemmas.{losses_change_no_shape}
 use Rattle.chunk_plain.specs.Setup.{Setup}
@@ -15,8 +15,9 @@ use Rattle.scenario_text.specs.declared.scenario.NumberedLine.{NumberedLine}
 use Rattle.scenario_text.specs.Scenario.{Parts}
 use Rattle.scenario_text.specs.Accepted.{calls_asked}
 use Rattle.scenario_text.specs.Emissions.{emitted_from, emitted_in}
+use Rattle.scenario_text.specs.Raws.{HasNoRaw}
 use Rattle.replay_model.specs.Acts.{Act}
-use Rattle.replay_model.specs.Flushes.{FlushNote}
+use Rattle.replay_model.specs.ActNotes.{ActNote}
 use Rattle.replay_model.specs.Plays.{Plays}
 use Rattle.replay_model.specs.Played.{IsSetupOf, IsPlayed, buffer_specs, buffers_of, records_in}
 use Rattle.replay_model.specs.Laws.{WritersWrote, WritersLose, ReplaysAreAccounts, EveryReplayIsFaithful}
@@ -24,17 +25,18 @@ use Rattle.replay_model.specs.Schedule.{schedule_of}
 use Rattle.replay_model.proofs.AccountLemmas.{many_writers, standing_is_faithful, standing_is_account}
 use Rattle.replay_model.proofs.FirstLemmas.{small_payload, first_stands}
 use Rattle.replay_model.proofs.LosesLemmas.{schedule_loses}
+use Rattle.replay_model.proofs.RawLemmas.{schedule_committed_none}
 use Rattle.replay_model.proofs.StandsLemmas.{Stands, stands_does}
 
 -- each world on the way stands as it should, and is owned
-pub plays_stand : (setup : Setup) (buffers : List Buffer) (acts : List Act) (old new : World) (notes : List FlushNote) → Plays setup buffers acts old new notes
+pub plays_stand : (setup : Setup) (buffers : List Buffer) (acts : List Act) (old new : World) (notes : List ActNote) → Plays setup buffers acts old new notes
     → Stands setup old → ∥ IsOwned old ∥₁ → Stands setup new × ∥ IsOwned new ∥₁
 plays_stand setup buffers [] old new notes plays stands owned =
     (subst (Stands setup) (sym plays.0) stands, subst (λ (w : World). ∥ IsOwned w ∥₁) (sym plays.0) owned)
 plays_stand setup buffers (act ∷ acts) old new notes plays stands owned =
     plays_stand setup buffers acts plays.0 new plays.1 plays.5 (stands_does setup buffers act old plays.0 plays.2 plays.3 stands) plays.3
 
-pub played_stands : (scenario : Parts) (setup : Setup) (world : World) (notes : List FlushNote) → IsPlayed scenario setup world notes
+pub played_stands : (scenario : Parts) (setup : Setup) (world : World) (notes : List ActNote) → IsPlayed scenario setup world notes
     → Stands setup world × ∥ IsOwned world ∥₁
 played_stands scenario setup world notes played =
     plays_stand setup (buffers_of scenario setup) (schedule_of scenario) (first_world setup) world notes played.plays
@@ -69,7 +71,7 @@ emitted_are lines number (spec ∷ specs) (view ∷ views) many each =
 pub setup_writers : (scenario : Parts) (setup : Setup) → IsSetupOf scenario setup → setup.writers ≡ scenario.writers
 setup_writers scenario setup is = ap (λ (s : Setup). s.writers) is.laid
 
-pub emitted_by : (scenario : Parts) (setup : Setup) (world : World) (notes : List FlushNote) → IsPlayed scenario setup world notes
+pub emitted_by : (scenario : Parts) (setup : Setup) (world : World) (notes : List ActNote) → IsPlayed scenario setup world notes
     → map (λ (view : WriterView). emissions_of view.calls) world.writers ≡ emitted_in scenario
 emitted_by scenario setup world notes played =
     let h = played_stands scenario setup world notes played in
@@ -82,5 +84,9 @@ emitted_by scenario setup world notes played =
 pub every_replay_is_faithful : EveryReplayIsFaithful
 every_replay_is_faithful scenario setup world notes played =
     let h = played_stands scenario setup world notes played in
-    subst (λ (emitted : List (List (List ℕ))). IsFaithful emitted (records_in scenario setup world)) (emitted_by scenario setup world notes played)
-    (standing_is_faithful setup (buffer_specs scenario) world h.1 h.0)
+    let own = standing_is_faithful setup (buffer_specs scenario) world h.1 h.0 in
+    subst (λ (emitted : List (List (List ℕ))). IsFaithfulOf (HasNoRaw scenario.lines) emitted (records_in scenario setup world)) (emitted_by scenario setup world notes played)
+    (record {
+      known = own.known;
+      told = λ place packets none. own.told place packets (schedule_committed_none scenario setup (buffers_of scenario setup) world notes place played.plays none);
+    })

@@ -13,26 +13,29 @@ use Rattle.trace_model.specs.History as model
 use Rattle.trace_model.specs.History.{Event, buffers_after}
 use Rattle.delivery_laws.specs.FlushLaws.{arrivals_of}
 use Rattle.chunk_plain.specs.Setup.{Setup, sequence_of}
+use Rattle.chunk_plain.specs.Steps.{notes_commit}
 use Rattle.chunk_plain.specs.Views.{Content, Committed, Found, Noted, Arrive, Partial, Patched, Closed, Read, Commit, ServiceView, WriterView, newcomer}
 use Rattle.chunk_plain.specs.World.{World, writer}
 use Rattle.chunk_plain.specs.Histories as histories
 use Rattle.chunk_plain.specs.Histories.{content_at, found_among, once_read, happened, history_of}
 use Rattle.chunk_plain.specs.Owned.{IsOwned}
 use Rattle.world_model.specs.FirstBuffers.{payload_at}
+use Rattle.service_core.specs.Agreement.{buffer_of}
 use Rattle.service_core.specs.Order.{Stage, LeadTo}
 use Rattle.service_core.specs.Reading.{noted_read, reads_in}
 use Rattle.service_core.specs.Closing.{closes_of}
 use Rattle.service_core.specs.Scraping.{parts_held}
 use Rattle.service_core.specs.Looking.{looked}
 use Rattle.service_core.specs.Taking.{Takes, TakesOf, places_of}
-use Rattle.service_core.proofs.CloseLemmas.{noted_grows}
+use Rattle.service_core.proofs.CloseLemmas.{noted_grows, committed_grows}
 use Rattle.service_core.proofs.HistoryLemmas.{Grows}
 use Rattle.service_core.proofs.TakingLemmas.{took_grows, looked_grows}
 use Rattle.service_core.proofs.QuietLemmas.{grow_both}
-use Rattle.replay_model.specs.Acts.{Act, Ask, Request, Answer, Collect, Scrape, CloseProducer, ReadAll}
+use Rattle.replay_model.specs.Acts.{Act, Ask, Request, Answer, Collect, Scrape, CloseProducer, ReadAll, CommitRaw}
 use Rattle.replay_model.specs.Does.{Does, LeavesRest, Collects, Tries, Gains, Again, Ends, Works, Alone, Helped, Tried, Lost, Asks, Notes, Wrote, dropped_call, is_shut}
-use Rattle.replay_model.specs.Flushes.{FlushNote}
+use Rattle.replay_model.specs.ActNotes.{ActNote}
 use Rattle.replay_model.specs.Plays.{Plays}
+use Rattle.replay_model.specs.Raws.{raw_commit}
 use Rattle.replay_model.proofs.FinishLemmas.{arrives_one}
 use Rattle.replay_model.proofs.OwnedLemmas.{owned_itself, named, learnt}
 use Rattle.replay_model.proofs.SortedLemmas.{IsSorted, Among, sorted_took, shut_took, open_places_fit}
@@ -121,8 +124,14 @@ does_grows setup buffers (CloseProducer producer) old new does sorted =
 does_grows setup buffers (ReadAll buffer limit) old new does sorted =
     subst (Grows old.service) (sym does.notes)
     (noted_grows old.service (flat_map noted_read (reads_in setup (buffers_after buffers (history_of old.service)) buffer limit)))
+does_grows setup buffers (CommitRaw place chunk) old new does sorted =
+    subst (Grows old.service) (sym does.notes) (by_target (buffer_of setup place == chunk.buffer))
+  where
+    by_target : (own : Bool) → Grows old.service (cond own (notes_commit old.service (raw_commit setup place chunk)) old.service)
+    by_target true = committed_grows old.service (raw_commit setup place chunk)
+    by_target false = grows_same old.service
 
-pub plays_grow : (setup : Setup) (buffers : List Buffer) (acts : List Act) (old new : World) (notes : List FlushNote) → Plays setup buffers acts old new notes → Stands setup old
+pub plays_grow : (setup : Setup) (buffers : List Buffer) (acts : List Act) (old new : World) (notes : List ActNote) → Plays setup buffers acts old new notes → Stands setup old
     → Grows old.service new.service
 plays_grow setup buffers [] old new notes plays stands = subst (λ (w : World). Grows old.service w.service) (sym plays.0) (grows_same old.service)
 plays_grow setup buffers (act ∷ acts) old new notes plays stands =
@@ -189,8 +198,9 @@ does_more setup buffers (Collect producer) old new p does = same_calls old new p
 does_more setup buffers (Scrape producer) old new p does = same_calls old new p does.writers
 does_more setup buffers (CloseProducer producer) old new p does = same_calls old new p does.writers
 does_more setup buffers (ReadAll buffer limit) old new p does = same_calls old new p does.writers
+does_more setup buffers (CommitRaw place chunk) old new p does = same_calls old new p does.writers
 
-pub plays_more : (setup : Setup) (buffers : List Buffer) (acts : List Act) (old new : World) (notes : List FlushNote) (p : ℕ) → Plays setup buffers acts old new notes
+pub plays_more : (setup : Setup) (buffers : List Buffer) (acts : List Act) (old new : World) (notes : List ActNote) (p : ℕ) → Plays setup buffers acts old new notes
     → HasMore (writer old p).calls (writer new p).calls
 plays_more setup buffers [] old new notes p plays = same_calls old new p (ap (λ (w : World). w.writers) plays.0)
 plays_more setup buffers (act ∷ acts) old new notes p plays =
@@ -214,7 +224,7 @@ answer_alone : (setup : Setup) (other place : ℕ) (old new : World) (b : Bool) 
 answer_alone setup other place old new true same differs = ap (λ (w : World). writer w place) same
 answer_alone setup other place old new false asks differs = works_others setup other old new asks.works place (λ e. differs (sym e))
 
-pub plays_alone : (setup : Setup) (buffers : List Buffer) (acts : List Act) (old new : World) (notes : List FlushNote) (place : ℕ) → Plays setup buffers acts old new notes
+pub plays_alone : (setup : Setup) (buffers : List Buffer) (acts : List Act) (old new : World) (notes : List ActNote) (place : ℕ) → Plays setup buffers acts old new notes
     → LeaveAlone place acts → writer new place ≡ writer old place
 plays_alone setup buffers [] old new notes place plays alone = ap (λ (w : World). writer w place) plays.0
 plays_alone setup buffers (Ask other call ∷ acts) old new notes place plays alone =
@@ -231,6 +241,8 @@ plays_alone setup buffers (Scrape producer ∷ acts) old new notes place plays a
 plays_alone setup buffers (CloseProducer producer ∷ acts) old new notes place plays alone =
     plays_alone setup buffers acts plays.0 new plays.1 place plays.5 alone ∙ same_view old plays.0 place plays.2.writers
 plays_alone setup buffers (ReadAll buffer limit ∷ acts) old new notes place plays alone =
+    plays_alone setup buffers acts plays.0 new plays.1 place plays.5 alone ∙ same_view old plays.0 place plays.2.writers
+plays_alone setup buffers (CommitRaw other chunk ∷ acts) old new notes place plays alone =
     plays_alone setup buffers acts plays.0 new plays.1 place plays.5 alone ∙ same_view old plays.0 place plays.2.writers
 
 -- ---- chunks that came

@@ -53,7 +53,7 @@ sum_zero each place (spec ∷ specs) none =
     let rest = sum_zero each (suc place) specs (λ p low. none p (omega (arith, low))) in
     omega (arith, here, rest)
 
-sum_both : (one other : ℕ → ℕ) (place : ℕ) (specs : List WriterSpec) → sum_all (λ p. one p + other p) place specs ≡ sum_all one place specs + sum_all other place specs
+pub sum_both : (one other : ℕ → ℕ) (place : ℕ) (specs : List WriterSpec) → sum_all (λ p. one p + other p) place specs ≡ sum_all one place specs + sum_all other place specs
 sum_both one other place [] = refl
 sum_both one other place (spec ∷ specs) = let rest = sum_both one other (suc place) specs in omega (arith, rest)
 

@@ -10,7 +10,7 @@ use Rattle.scenario_text.specs.Scenario.{Parts, IsScenario, parts_of}
 use Rattle.scenario_text.specs.Accepted.{ScenariosAreAccepted}
 use Rattle.scenario_text.specs.Limits.{ScenariosAreSetUp}
 use Rattle.replay_model.specs.Enough.{IsPlayable}
-use Rattle.replay_model.specs.Flushes.{FlushNote}
+use Rattle.replay_model.specs.ActNotes.{ActNote}
 use Rattle.replay_model.specs.Played.{IsPlayed, Replays, records_in, report_of}
 use Rattle.replay_model.proofs.BalanceLemmas.{every_report_is_balanced}
 use Rattle.replay_model.proofs.WholeLemmas.{every_enough_replay_is_complete}
@@ -22,7 +22,7 @@ pub scenario_is_playable : (scenario : Scenario) → IsScenario scenario → len
     → IsPlayable (parts_of scenario)
 scenario_is_playable scenario is few set_up accepted = record { few = few; set_up = set_up scenario is; asks = accepted scenario is }
 
-abbrev pub replays_of : (scenario : Parts) (setup : Setup) (world : World) (notes : List FlushNote) (old new : Intake) (text : List ℕ) → IsPlayed scenario setup world notes
+abbrev pub replays_of : (scenario : Parts) (setup : Setup) (world : World) (notes : List ActNote) (old new : Intake) (text : List ℕ) → IsPlayed scenario setup world notes
     → IsPlayable scenario → new ≡ after_told old (trace_of (records_in scenario setup world)) → text ≡ report_of scenario setup world notes
     → Replays scenario old new text
 replays_of scenario setup world notes old new text played playable trace report = record {

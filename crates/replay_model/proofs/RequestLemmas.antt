@@ -1,12 +1,14 @@
 -- A line that makes a flush request, and later one that reads the writer's buffer without limit, are a flush that is taken and read.
 use Rattle.std.proofs.Common.{◌≡◌, ◌≢◌, ◌∙◌, ℕ, zero, suc, ◌+◌, ◌-◌, ◌<◌, ◌≤◌, Bool, true, false, List, [], ◌∷◌, ◌++◌, length, map, Some, refl, sym, ap, subst, arith, inl, inr, cond, append_assoc, append-nil, length-append}
 use Rattle.std.specs.Prelude.{slice_get, MatchBool}
+use Rattle.std.proofs.lemmas.Bool.{false≢true}
 use Rattle.std.proofs.lemmas.Option.{slice_get_within, slice_get-get_or}
 use Rattle.trace_base.specs.declared.policy.WriterSpec.{WriterSpec}
 use Rattle.trace_model.specs.Buffers.{Buffer}
 use Rattle.trace_model.specs.Calls.{Call, Flushed}
 use Rattle.trace_model.specs.Causes.{fixed_after}
 use Rattle.trace_model.specs.Counts.{last_count}
+use Rattle.trace_model.specs.Delivery.{Delivered, records_of}
 use Rattle.trace_model.specs.Pages.{Page}
 use Rattle.trace_model.specs.Written.{chains_of}
 use Rattle.delivery_laws.specs.FlushLaws.{IsFlushed, AreSettled}
@@ -25,6 +27,7 @@ use Rattle.chunk_plain.specs.World.{World, writer}
 use Rattle.chunk_plain.specs.Owned.{IsOwned, held_count}
 use Rattle.chunk_plain.specs.Histories.{completed_images, history_of}
 use Rattle.chunk_plain.proofs.MadeLemmas.{first_owned}
+use Rattle.world_model.specs.Accounts.{NoneCommitted}
 use Rattle.world_model.specs.FirstBuffers.{payload_at}
 use Rattle.scenario_text.specs.declared.scenario.NumberedLine.{NumberedLine}
 use Rattle.scenario_text.specs.declared.scenario.LineKind.{LineKind}
@@ -32,21 +35,23 @@ use Rattle.scenario_text.specs.declared.scenario.LineKind.TheVariants as line
 use Rattle.scenario_text.specs.Scenario.{Parts}
 use Rattle.scenario_text.specs.Accepted.{calls_asked, is_closed_by}
 use Rattle.scenario_text.specs.Limits.{IsSetUp, IsWriter}
+use Rattle.scenario_text.specs.Raws.{HasNoRaw, has_raw}
 use Rattle.service_core.specs.Agreement.{spec_at}
 use Rattle.replay_model.specs.Acts.{Act, Ask, Request, Answer, Collect, ReadAll}
 use Rattle.replay_model.specs.Does.{Asks}
-use Rattle.replay_model.specs.Flushes.{FlushNote}
-use Rattle.replay_model.specs.FlushLaws.{begun_in, IsFlushRead, HasSettled, EveryRequestIsSettled}
+use Rattle.replay_model.specs.ActNotes.{ActNote}
+use Rattle.replay_model.specs.FlushLaws.{AreFew, has_committed, known_in, raw_records, IsFlushRead, HasSettled, EveryRequestIsSettled}
 use Rattle.replay_model.specs.Plays.{Plays}
-use Rattle.replay_model.specs.Played.{IsSetupOf, buffers_of, first_buffer}
+use Rattle.replay_model.specs.Played.{IsSetupOf, buffers_of, first_buffer, records_in}
 use Rattle.replay_model.specs.Schedule.{open_producers, open_places, acts_of, acts_from}
 use Rattle.replay_model.proofs.AccountLemmas.{many_writers}
 use Rattle.replay_model.proofs.BalanceLemmas.{each_is}
 use Rattle.replay_model.proofs.EndLemmas.{IsSplit, plays_split, flush_done, producer_open}
 use Rattle.replay_model.proofs.FirstLemmas.{small_payload, first_stands}
-use Rattle.replay_model.proofs.FlushLemmas.{sum_views, every_flush_is_settled}
+use Rattle.replay_model.proofs.FlushLemmas.{known_at, sum_known, every_flush_is_settled}
 use Rattle.replay_model.proofs.LosesLemmas.{lines_lose}
-use Rattle.replay_model.proofs.ReadOutLemmas.{begun_sum}
+use Rattle.replay_model.proofs.RawLemmas.{none_is_committed, lines_committed_none}
+use Rattle.replay_model.proofs.ReadOutLemmas.{sum_all, sum_both, sum_less, begun_sum}
 use Rattle.replay_model.proofs.NoneLostLemmas.{large_sizes, as_many}
 use Rattle.replay_model.proofs.PhaseLemmas.{collect_phase}
 use Rattle.replay_model.proofs.PlayLemmas.{plays_both}
@@ -55,6 +60,16 @@ use Rattle.replay_model.proofs.PlayedOnLemmas.{LeaveAlone, flush_packets, flush_
 use Rattle.replay_model.proofs.ScrapedLemmas.{counted}
 use Rattle.replay_model.proofs.SortedLemmas.{Among}
 use Rattle.replay_model.proofs.StandsLemmas.{Stands, stands_does}
+
+-- ---- records of writers in whose names lines commit chunks
+
+abbrev raw_at : List NumberedLine → List Delivered → (place : ℕ) → ℕ
+raw_at lines records place = cond (has_raw (suc place) lines) (length (records_of (sequence_of place) records)) 0
+
+sum_raw : (lines : List NumberedLine) (records : List Delivered) (place : ℕ) (specs : List WriterSpec)
+    → sum_all (raw_at lines records) place specs ≡ raw_records lines records place specs
+sum_raw lines records place [] = refl
+sum_raw lines records place (spec ∷ specs) = ap (λ (n : ℕ). raw_at lines records place + n) (sum_raw lines records (suc place) specs)
 
 -- ---- the acts of lines, in parts
 
@@ -195,25 +210,50 @@ module _ (scenario : Parts) (setup : Setup) (is_setup : IsSetupOf scenario setup
       subst (λ (n : ℕ). Among n (open_producers before 1 scenario.producers)) at
       (producer_open before 1 scenario.producers ((spec_at setup.writers place).producer - 1) low (ap (is_closed_by before) at ∙ opened))
 
-  -- no more packets are begun than there are lines
-  pub begun_few : (lines : List NumberedLine) (world : World) (notes : List FlushNote) → Plays setup (buffers_of scenario setup) (acts_from scenario [] lines) (first_world setup) world notes
-      → begun_in world.writers ≤ length lines
-  begun_few lines world notes plays =
+  -- no more packets are known than there are lines, and records of writers in whose names lines commit chunks
+  pub known_few : (lines : List NumberedLine) (world : World) (notes : List ActNote) → Plays setup (buffers_of scenario setup) (acts_from scenario [] lines) (first_world setup) world notes
+      → known_in world.service (records_in scenario setup world) 0 world.writers ≤ length lines + raw_records lines (records_in scenario setup world) 0 scenario.writers
+  known_few lines world notes plays =
       let stands = plays_stand setup buffers (acts_from scenario [] lines) (first_world setup) world notes plays (first_stands setup (small_payload scenario setup is_setup)) ∣ first_owned setup ∣₁ in
-      let sum = sum_views (λ p. begun_count (calls_asked (suc p) lines)) world.writers setup.writers 0 (many_writers setup world stands.1 stands.0)
-      (λ k.
-      let up : 0 + k ≡ k = omega arith in
-      ap (λ (p : ℕ). begun_count (calls_asked (suc p) lines)) up
-      ∙ sym (losses_change_no_shape (calls_asked (suc k) lines) (writer world k).calls (lines_lose scenario setup buffers lines world notes plays k)).begun) in
+      let sum = sum_known world (records_in scenario setup world) setup.writers (many_writers setup world stands.1 stands.0) in
+      let less = sum_less (known_at world (records_in scenario setup world)) (λ p. begun_count (calls_asked (suc p) lines) + raw_at lines (records_in scenario setup world) p) 0 setup.writers
+      (λ p. each_few p (has_raw (suc p) lines) refl) in
+      let both = sum_both (λ p. begun_count (calls_asked (suc p) lines)) (raw_at lines (records_in scenario setup world)) 0 setup.writers in
       let most = begun_sum lines setup.writers in
-      omega (arith, sum, most)
+      let raws = sum_raw lines (records_in scenario setup world) 0 setup.writers in
+      let specs = ap (raw_records lines (records_in scenario setup world) 0) (setup_writers scenario setup is_setup) in
+      omega (arith, sum, less, both, most, raws, specs)
+    where
+      each_few : (p : ℕ) (raw : Bool) → has_raw (suc p) lines ≡ raw
+          → known_at world (records_in scenario setup world) p ≤ begun_count (calls_asked (suc p) lines) + raw_at lines (records_in scenario setup world) p
+      each_few p raw is = by_raw raw is (has_committed world.service (sequence_of p)) refl
+        where
+          begun : begun_count (writer world p).calls ≡ begun_count (calls_asked (suc p) lines)
+          begun = (losses_change_no_shape (calls_asked (suc p) lines) (writer world p).calls (lines_lose scenario setup buffers lines world notes plays p)).begun
 
-  module _ (acts : List Act) (asked : World) (notes : List FlushNote) (plays : Plays setup buffers acts (first_world setup) asked notes) where
+          by_raw : (raw : Bool) → has_raw (suc p) lines ≡ raw → (committed : Bool) → has_committed world.service (sequence_of p) ≡ committed
+              → known_at world (records_in scenario setup world) p ≤ begun_count (calls_asked (suc p) lines) + raw_at lines (records_in scenario setup world) p
+          by_raw raw is false none =
+              let here : known_at world (records_in scenario setup world) p ≡ begun_count (writer world p).calls =
+              ap (λ (b : Bool). cond b (length (records_of (sequence_of p) (records_in scenario setup world))) (begun_count (writer world p).calls)) none in
+              let same = begun in
+              omega (arith, here, same)
+          by_raw true is true some =
+              let here : known_at world (records_in scenario setup world) p ≡ length (records_of (sequence_of p) (records_in scenario setup world)) =
+              ap (λ (b : Bool). cond b (length (records_of (sequence_of p) (records_in scenario setup world))) (begun_count (writer world p).calls)) some in
+              let there : raw_at lines (records_in scenario setup world) p ≡ length (records_of (sequence_of p) (records_in scenario setup world)) =
+              ap (λ (b : Bool). cond b (length (records_of (sequence_of p) (records_in scenario setup world))) 0) is in
+              omega (arith, here, there)
+          by_raw false is true some =
+              absurd (false≢true
+              (sym (none_is_committed world.service (sequence_of p) (lines_committed_none scenario setup buffers lines world notes p plays is)) ∙ some))
+
+  module _ (acts : List Act) (asked : World) (notes : List ActNote) (plays : Plays setup buffers acts (first_world setup) asked notes) where
     at_asked : Stands setup asked × ∥ IsOwned asked ∥₁
     at_asked = plays_stand setup buffers acts (first_world setup) asked notes plays (first_stands setup (small_payload scenario setup is_setup)) ∣ first_owned setup ∣₁
 
     -- the writer flushes, others answer, and the open producers' chunks are taken
-    taken_met : (answered taken : World) (others producers : List ℕ) (more : List FlushNote) → Asks setup place Flushed asked answered → ∥ IsOwned answered ∥₁
+    taken_met : (answered taken : World) (others producers : List ℕ) (more : List ActNote) → Asks setup place Flushed asked answered → ∥ IsOwned answered ∥₁
         → is_writing (packets_of (writer asked place).calls) ≡ false
         → most_chunks (payload_at setup place) (emissions_of (writer asked place).calls) ≤ POSITION_LIMIT
         → ((p : ℕ) → Among p others → p ≢ place) → Among (producer_of setup place) producers
@@ -238,7 +278,7 @@ module _ (scenario : Parts) (setup : Setup) (is_setup : IsSetupOf scenario setup
         let all = counted (writer answered place).begun in
         omega (arith, long, last, most, all)
 
-  module _ (before between : List NumberedLine) (request last : NumberedLine) (world : World) (notes : List FlushNote)
+  module _ (before between : List NumberedLine) (request last : NumberedLine) (world : World) (notes : List ActNote)
       (plays : Plays setup buffers (acts_from scenario [] (before ++ (request ∷ (between ++ (last ∷ []))))) (first_world setup) world notes)
       (opened : is_closed_by before (producer_of setup place) ≡ false) (request_is : request.what ≡ line.Request)
       (last_is : last.what ≡ line.Read (spec_at setup.writers place).buffer last_count) where
@@ -287,17 +327,23 @@ module _ (scenario : Parts) (setup : Setup) (is_setup : IsSetupOf scenario setup
     whole = plays_split setup buffers (acts_from scenario [] before) _ (first_world setup) world notes
         (subst (λ (acts : List Act). Plays setup buffers acts (first_world setup) world notes) all_acts plays)
 
-    few_begun : begun_in world.writers ≤ length (before ++ (request ∷ (between ++ (last ∷ []))))
-    few_begun = begun_few (before ++ (request ∷ (between ++ (last ∷ [])))) world notes plays
+    few_known : known_in world.service (records_in scenario setup world) 0 world.writers
+        ≤ length (before ++ (request ∷ (between ++ (last ∷ []))))
+        + raw_records (before ++ (request ∷ (between ++ (last ∷ [])))) (records_in scenario setup world) 0 scenario.writers
+    few_known = known_few (before ++ (request ∷ (between ++ (last ∷ [])))) world notes plays
 
-    pub settled : length (before ++ (request ∷ (between ++ (last ∷ [])))) ≤ last_count → is_writing (packets_of (calls_asked (suc place) before)) ≡ false
+    pub settled : AreFew scenario (before ++ (request ∷ (between ++ (last ∷ [])))) (records_in scenario setup world)
+        → HasNoRaw (before ++ (request ∷ (between ++ (last ∷ [])))) place → is_writing (packets_of (calls_asked (suc place) before)) ≡ false
         → most_chunks (payload_at setup place) (emissions_of (calls_asked (suc place) before)) ≤ POSITION_LIMIT
-        → (asked : World) × (earlier : List FlushNote) × Plays setup buffers (acts_from scenario [] before) (first_world setup) asked earlier
+        → (asked : World) × (earlier : List ActNote) × Plays setup buffers (acts_from scenario [] before) (first_world setup) asked earlier
         × HasSettled scenario setup place asked world
-    settled few_lines ended_by_lines few_ids = (whole.mid, whole.notes, whole.first, by_request (shape.writing ∙ ended_by_lines) few_chunks)
+    settled few_lines none ended_by_lines few_ids = (whole.mid, whole.notes, whole.first, by_request (shape.writing ∙ ended_by_lines) few_chunks)
       where
-        few : begun_in world.writers ≤ last_count
-        few = let begun = few_begun in omega (arith, begun, few_lines)
+        few : known_in world.service (records_in scenario setup world) 0 world.writers ≤ last_count
+        few = let known = few_known in omega (arith, known, few_lines)
+
+        free : NoneCommitted world.service (sequence_of place)
+        free = lines_committed_none scenario setup buffers (before ++ (request ∷ (between ++ (last ∷ [])))) world notes place plays none
 
         shape : HasShapeOf (calls_asked (suc place) before) (writer whole.mid place).calls
         shape = losses_change_no_shape (calls_asked (suc place) before) (writer whole.mid place).calls (lines_lose scenario setup buffers before whole.mid whole.notes whole.first place)
@@ -347,11 +393,13 @@ module _ (scenario : Parts) (setup : Setup) (is_setup : IsSetupOf scenario setup
               owned_now = going.second.3;
             } in
             let end : world ≡ going.second.0 = going.second.5.0 in
-            let few_now : begun_in going.second.0.writers ≤ last_count = subst (λ (w : World). begun_in w.writers ≤ last_count) end few in
+            let few_now : known_in going.second.0.service (records_in scenario setup going.second.0) 0 going.second.0.writers ≤ last_count =
+            subst (λ (w : World). known_in w.service (records_in scenario setup w) 0 w.writers ≤ last_count) end few in
+            let free_now : NoneCommitted going.second.0.service (sequence_of place) = subst (λ (w : World). NoneCommitted w.service (sequence_of place)) end free in
             subst (HasSettled scenario setup place whole.mid) (sym end)
             (settled_same scenario setup place whole.mid firsts.mid going.second.0 same
-            (every_flush_is_settled scenario setup is_setup set_up (acts_from scenario [] before ++ (Request ∷ map Answer among.first)) firsts.mid going.second.0 _ up_to place inside flush few_now))
+            (every_flush_is_settled scenario setup is_setup set_up (acts_from scenario [] before ++ (Request ∷ map Answer among.first)) firsts.mid going.second.0 _ up_to place inside flush free_now few_now))
 
 pub every_request_is_settled : EveryRequestIsSettled
-every_request_is_settled scenario setup is_setup set_up before between request last world notes plays place inside opened request_is last_is few ended ids =
-    settled scenario setup is_setup set_up place inside before between request last world notes plays opened request_is last_is few ended ids
+every_request_is_settled scenario setup is_setup set_up before between request last world notes plays place inside opened request_is last_is few none ended ids =
+    settled scenario setup is_setup set_up place inside before between request last world notes plays opened request_is last_is few none ended ids

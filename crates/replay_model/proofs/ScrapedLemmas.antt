@@ -223,4 +223,4 @@ module _ (setup : Setup) (producer : ℕ) (old new : World) (sorted : IsSorted s
   pub sorted_scrapes : IsSorted setup new.service
   sorted_scrapes =
       subst (IsSorted setup) (sym scrapes.notes)
-      (sorted_more setup between view notes mid.0 (looked_grows between scrapes.looks notes) refl refl mid.0.level known (λ target inside. leads target))
+      (sorted_more setup between view notes mid.0 (looked_grows between scrapes.looks notes) refl refl mid.0.level known (λ target inside none. leads target))

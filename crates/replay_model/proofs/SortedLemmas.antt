@@ -6,19 +6,21 @@ use Rattle.std.proofs.lemmas.Bool.{eq-eqb, ne_eqb, eqb-true, cases_eq}
 use Rattle.std.proofs.Math.Bool.{or-false, or-true, or_assoc}
 use Rattle.std.proofs.lemmas.List.{length-set}
 use Rattle.trace_base.proofs.Choices.{match_true, match_false}
-use Rattle.trace_base.proofs.Lists.{get_behind}
+use Rattle.trace_base.proofs.Lists.{get_behind, get_seam}
 use Rattle.trace_base.specs.declared.policy.WriterSpec.{WriterSpec}
 use Rattle.trace_model.specs.Images.{Patch}
 use Rattle.trace_model.specs.History as model
 use Rattle.chunk_plain.specs.Setup.{Setup, producer_of, sequence_of}
-use Rattle.chunk_plain.specs.Views.{Content, Look, Taken, Noted, ServiceView, taken_of}
+use Rattle.chunk_plain.specs.Steps.{notes_commit}
+use Rattle.chunk_plain.specs.Views.{Content, Look, Taken, Noted, Commit, Committed, ServiceView, taken_of}
 use Rattle.chunk_plain.specs.Histories.{content_at}
+use Rattle.world_model.specs.Accounts.{NoneCommitted}
 use Rattle.service_core.specs.Agreement.{AreKnownNotes, spec_at}
 use Rattle.service_core.specs.Closing.{closes_of}
 use Rattle.service_core.specs.Order.{Stage, beginning, LeadTo}
 use Rattle.service_core.specs.Reading.{noted_read}
 use Rattle.service_core.specs.Taking.{patched_where, takings, taken_more, took, noted_more, TakesOf, Takes, places_of}
-use Rattle.service_core.proofs.CloseLemmas.{noted_grows}
+use Rattle.service_core.proofs.CloseLemmas.{noted_grows, committed_grows}
 use Rattle.service_core.proofs.HistoryLemmas.{Grows, known_append, all_known_grow}
 use Rattle.service_core.proofs.OrderLemmas.{lead_both, lead_grows}
 use Rattle.service_core.proofs.TakingLemmas.{taken_here, taken_other, took_grows}
@@ -30,12 +32,12 @@ use Rattle.replay_model.specs.Does.{AreOpen, is_close_of, is_shut}
 abbrev pub at_stage : ℕ → Bool → Stage
 at_stage come closed = record { come = come; closed = closed; due = [] }
 
--- the notes on each sequence have come to where the view stands
+-- The notes on each sequence have come to where the view stands, where nothing of it came by a commit.
 pub record IsSorted (setup : Setup) (service : ServiceView) : Type 0 where
   pub many : length service.taken ≡ length setup.writers
   pub level : (place : ℕ) → length (taken_of service place).contents ≡ (taken_of service place).count
   pub known : AreKnownNotes service service.events
-  pub lead : (place : ℕ) → place < length setup.writers
+  pub lead : (place : ℕ) → place < length setup.writers → NoneCommitted service (sequence_of place)
       → LeadTo service (sequence_of place) beginning service.events (at_stage (taken_of service place).count (is_shut (sequence_of place) service.events))
 
 -- the number stands in the list
@@ -52,7 +54,7 @@ shut_append q (x ∷ xs) ys =
 
 pub sorted_more : (setup : Setup) (old new : ServiceView) (notes : List Noted) → IsSorted setup old → Grows old new → new.events ≡ old.events ++ notes
     → length new.taken ≡ length old.taken → ((place : ℕ) → length (taken_of new place).contents ≡ (taken_of new place).count) → AreKnownNotes new notes
-    → ((place : ℕ) → place < length setup.writers
+    → ((place : ℕ) → place < length setup.writers → NoneCommitted new (sequence_of place)
     → LeadTo new (sequence_of place) (at_stage (taken_of old place).count (is_shut (sequence_of place) old.events)) notes
     (at_stage (taken_of new place).count (is_shut (sequence_of place) old.events || is_shut (sequence_of place) notes)))
     → IsSorted setup new
@@ -60,7 +62,7 @@ sorted_more setup old new notes sorted grows events_are taken_are level known le
   many = taken_are ∙ sorted.many;
   level = level;
   known = subst (AreKnownNotes new) (sym events_are) (known_append new old.events notes (all_known_grow old new old.events grows sorted.known) known);
-  lead = λ place inside.
+  lead = λ place inside none.
       let q : ℕ = sequence_of place in
       let last : ℕ = (taken_of new place).count in
       let before : Bool = is_shut q old.events in
@@ -68,8 +70,9 @@ sorted_more setup old new notes sorted grows events_are taken_are level known le
       subst (λ (es : List Noted). LeadTo new q beginning es (at_stage last (is_shut q new.events))) (sym events_are)
       (subst (λ (b : Bool). LeadTo new q beginning (old.events ++ notes) (at_stage last b)) closed_is
       (lead_both new q beginning (at_stage (taken_of old place).count before) (at_stage last (before || is_shut q notes)) old.events notes
-      (lead_grows old new q beginning (at_stage (taken_of old place).count before) old.events grows sorted.known (sorted.lead place inside))
-      (leads place inside)));
+      (lead_grows old new q beginning (at_stage (taken_of old place).count before) old.events grows sorted.known
+      (sorted.lead place inside (λ k one is. none k one (grows.commits k one is))))
+      (leads place inside none)));
 }
 
 -- ---- chunks that are taken of one writer
@@ -173,7 +176,7 @@ sorted_took setup view place looks contents sorted inside opened =
     (length-set view.taken place (taken_more t contents))
     (λ p. level_at low p (cases_eq p place))
     (known_takings new (sequence_of place) t.count contents (taken_there view place looks contents low (sorted.level place)))
-    (λ p below. lead_at low p (cases_eq p place))
+    (λ p below none. lead_at low p (cases_eq p place))
   where
     level_at : place < length view.taken → (p : ℕ) → (p ≡ place) ⊎ (p ≡ place → ⊥)
         → length (taken_of (took view place looks contents) p).contents ≡ (taken_of (took view place looks contents) p).count
@@ -349,7 +352,7 @@ sorted_closes setup producer view sorted opened =
     let places : List ℕ = places_of producer 0 setup.writers in
     let new : ServiceView = noted_more view (closes_of places) in
     sorted_more setup view new (closes_of places) sorted (noted_grows view (closes_of places)) refl refl sorted.level (known_closes new places)
-    (λ place inside. lead_closes new place (taken_of view place).count (is_shut (sequence_of place) view.events) 0 places (rising_places producer 0 setup.writers)
+    (λ place inside none. lead_closes new place (taken_of view place).count (is_shut (sequence_of place) view.events) 0 places (rising_places producer 0 setup.writers)
     (λ among. (open_places_fit setup producer view opened place among).1))
 
 -- ---- reads
@@ -388,9 +391,20 @@ sorted_reads setup view events sorted =
     let notes : List Noted = flat_map noted_read events in
     let new : ServiceView = noted_more view notes in
     sorted_more setup view new notes sorted (noted_grows view notes) refl refl sorted.level (known_reads new events)
-    (λ place inside.
+    (λ place inside none.
     let q : ℕ = sequence_of place in
     let n : ℕ = (taken_of view place).count in
     let closed : Bool = is_shut q view.events in
     let same : closed ≡ (closed || is_shut q notes) = sym (ap (λ (b : Bool). closed || b) (shut_reads q events) ∙ or-false closed) in
     subst (λ (b : Bool). LeadTo new q (at_stage n closed) notes (at_stage n b)) same (lead_reads new q n closed events))
+
+-- ---- commits
+
+pub sorted_committed : (setup : Setup) (view : ServiceView) (committed : Committed) → IsSorted setup view → IsSorted setup (notes_commit view committed)
+sorted_committed setup view committed sorted =
+    let at : ℕ = length view.commits in
+    let new : ServiceView = notes_commit view committed in
+    sorted_more setup view new (Commit at ∷ []) sorted (committed_grows view committed) refl refl sorted.level ((committed, get_seam view.commits [] committed), tt)
+    (λ place inside none.
+    let closed : Bool = is_shut (sequence_of place) view.events in
+    (refl, none at, ap (at_stage (taken_of view place).count) (sym (or-false closed))))

@@ -1,21 +1,24 @@
 -- What writers have written and the service has noted stays as it should, act by act.
-use Rattle.std.proofs.Common.{◌≡◌, ◌≢◌, ◌∙◌, ℕ, ◌+◌, ◌<◌, ◌⊎◌, Bool, true, false, List, length, get_or, sym, ap, subst, inl, inr}
-use Rattle.std.specs.Prelude.{MatchBool}
+use Rattle.std.proofs.Common.{◌≡◌, ◌≢◌, ◌∙◌, ℕ, ◌+◌, ◌<◌, ◌⊎◌, Bool, true, false, List, length, get_or, sym, ap, subst, inl, inr, cond}
+use Rattle.std.specs.Prelude.{◌==◌, MatchBool}
 use Rattle.std.proofs.lemmas.Bool.{cases_eq}
 use Rattle.trace_model.specs.Buffers.{Buffer}
 use Rattle.trace_model.specs.Calls.{Call, Flushed}
 use Rattle.trace_model.specs.History.{buffers_after}
 use Rattle.trace_model.specs.Packets.{packets_of, is_writing}
 use Rattle.chunk_plain.specs.Setup.{Setup}
+use Rattle.chunk_plain.specs.Steps.{notes_commit}
 use Rattle.chunk_plain.specs.Views.{ServiceView, WriterView, newcomer}
 use Rattle.chunk_plain.specs.World.{World, writer}
 use Rattle.chunk_plain.specs.Histories.{history_of}
 use Rattle.chunk_plain.specs.Owned.{IsOwned}
+use Rattle.service_core.specs.Agreement.{buffer_of}
 use Rattle.service_core.specs.Reading.{reads_in}
 use Rattle.service_core.specs.Taking.{places_of}
-use Rattle.replay_model.specs.Acts.{Act, Ask, Request, Answer, Collect, Scrape, CloseProducer, ReadAll}
+use Rattle.replay_model.specs.Acts.{Act, Ask, Request, Answer, Collect, Scrape, CloseProducer, ReadAll, CommitRaw}
 use Rattle.replay_model.specs.Does.{Does, LeavesRest, Collects, Closes, Tries, Gains, Again, Ends, Works, Alone, Helped, Tried, Lost, Asks, Wrote, AreOpen}
-use Rattle.replay_model.proofs.SortedLemmas.{IsSorted, sorted_takes, sorted_closes, sorted_reads, open_places_fit}
+use Rattle.replay_model.specs.Raws.{raw_commit}
+use Rattle.replay_model.proofs.SortedLemmas.{IsSorted, sorted_takes, sorted_closes, sorted_reads, sorted_committed, open_places_fit}
 use Rattle.replay_model.proofs.ScrapedLemmas.{sorted_scrapes}
 
 pub sorted_collects : (setup : Setup) (producer : ℕ) (old new : World) → IsSorted setup old.service → Collects setup producer old new → IsSorted setup new.service
@@ -112,3 +115,11 @@ stands_does setup buffers (ReadAll buffer limit) old new does owned stands = rec
   sorted = subst (IsSorted setup) (sym does.notes) (sorted_reads setup old.service (reads_in setup (buffers_after buffers (history_of old.service)) buffer limit) stands.sorted);
   wrote = same_writers setup old new does.writers stands.wrote;
 }
+stands_does setup buffers (CommitRaw place chunk) old new does owned stands = record {
+  sorted = subst (IsSorted setup) (sym does.notes) (by_target (buffer_of setup place == chunk.buffer));
+  wrote = same_writers setup old new does.writers stands.wrote;
+}
+  where
+    by_target : (own : Bool) → IsSorted setup (cond own (notes_commit old.service (raw_commit setup place chunk)) old.service)
+    by_target true = sorted_committed setup old.service (raw_commit setup place chunk) stands.sorted
+    by_target false = stands.sorted

@@ -22,11 +22,11 @@ use Rattle.chunk_plain.specs.Histories.{completed_images}
 use Rattle.chunk_plain.proofs.MadeLemmas.{first_owned}
 use Rattle.world_model.specs.FirstBuffers.{payload_at}
 use Rattle.world_model.proofs.OwnLemmas.{page_of}
-use Rattle.replay_model.specs.Acts.{Act, Ask, Request, Answer, Collect, Scrape, CloseProducer, ReadAll}
+use Rattle.replay_model.specs.Acts.{Act, Ask, Request, Answer, Collect, Scrape, CloseProducer, ReadAll, CommitRaw}
 use Rattle.trace_writer.specs.Answered.{KeepsCompleted}
 use Rattle.trace_writer.proofs.holding.Answering.{keeps_on}
 use Rattle.replay_model.specs.Does.{Does, Asks, Wrote}
-use Rattle.replay_model.specs.Flushes.{FlushNote}
+use Rattle.replay_model.specs.ActNotes.{ActNote}
 use Rattle.replay_model.specs.FlushLaws.{EveryFlushStaysCut}
 use Rattle.replay_model.specs.Played.{buffers_of}
 use Rattle.replay_model.specs.Plays.{Plays}
@@ -69,9 +69,10 @@ does_keeps setup buffers (Collect producer) old new p does = keeps_writers old n
 does_keeps setup buffers (Scrape producer) old new p does = keeps_writers old new p does.writers
 does_keeps setup buffers (CloseProducer producer) old new p does = keeps_writers old new p does.writers
 does_keeps setup buffers (ReadAll buffer limit) old new p does = keeps_writers old new p does.writers
+does_keeps setup buffers (CommitRaw place chunk) old new p does = keeps_writers old new p does.writers
 
 -- whatever is done, completed chunks have what they had
-pub plays_keeps : (setup : Setup) (buffers : List Buffer) (acts : List Act) (old new : World) (notes : List FlushNote) (p : ℕ) → Plays setup buffers acts old new notes
+pub plays_keeps : (setup : Setup) (buffers : List Buffer) (acts : List Act) (old new : World) (notes : List ActNote) (p : ℕ) → Plays setup buffers acts old new notes
     → KeepsCompleted (writer old p).begun (writer new p).begun
 plays_keeps setup buffers [] old new notes p plays = keeps_writers old new p (ap (λ (w : World). w.writers) plays.0)
 plays_keeps setup buffers (act ∷ acts) old new notes p plays =

@@ -22,6 +22,7 @@ use Rattle.chunk_plain.specs.Histories.{history_of}
 use Rattle.chunk_plain.specs.Owned.{IsOwned, held_count}
 use Rattle.chunk_plain.proofs.Lists.{at_inside}
 use Rattle.chunk_plain.proofs.MadeLemmas.{first_owned}
+use Rattle.world_model.specs.Accounts.{NoneCommitted}
 use Rattle.world_model.specs.FirstBuffers.{payload_at}
 use Rattle.scenario_text.specs.Scenario.{Parts}
 use Rattle.scenario_text.specs.Accepted.{calls_asked, is_closed_by}
@@ -31,7 +32,7 @@ use Rattle.service_core.specs.Reading.{reads_in}
 use Rattle.replay_model.specs.Acts.{Act, Ask, Collect, CloseProducer}
 use Rattle.replay_model.specs.Does.{Wrote, is_shut}
 use Rattle.replay_model.specs.Enough.{HasEnough, IsPlayable}
-use Rattle.replay_model.specs.Flushes.{FlushNote}
+use Rattle.replay_model.specs.ActNotes.{ActNote}
 use Rattle.replay_model.specs.Laws.{EveryEnoughReplayIsComplete}
 use Rattle.replay_model.specs.Played.{IsPlayed, buffers_of}
 use Rattle.replay_model.specs.Plays.{Plays}
@@ -49,25 +50,27 @@ use Rattle.replay_model.proofs.NoneLostLemmas.{is_writer, open_still}
 use Rattle.replay_model.proofs.OwnedLemmas.{owned_itself, named, learnt}
 use Rattle.replay_model.proofs.PhaseLemmas.{IsReadOut, collect_phase, close_phase, closes_keep, read_phase}
 use Rattle.replay_model.proofs.PlayedLemmas.{plays_stand}
+use Rattle.replay_model.proofs.PlayedOnLemmas.{plays_grow}
+use Rattle.replay_model.proofs.RawLemmas.{none_has_raw, schedule_committed_none}
 use Rattle.replay_model.proofs.RoomLemmas.{payload_for}
 use Rattle.replay_model.proofs.SortedLemmas.{Among, at_stage}
 use Rattle.replay_model.proofs.StandsLemmas.{Stands}
 
 -- ---- what acts of the service leave of writers
 
-collects_leave : (setup : Setup) (buffers : List Buffer) (producers : List ℕ) (old new : World) (notes : List FlushNote)
+collects_leave : (setup : Setup) (buffers : List Buffer) (producers : List ℕ) (old new : World) (notes : List ActNote)
     → Plays setup buffers (map Collect producers) old new notes → new.writers ≡ old.writers
 collects_leave setup buffers [] old new notes plays = ap (λ (w : World). w.writers) plays.0
 collects_leave setup buffers (producer ∷ producers) old new notes plays = collects_leave setup buffers producers plays.0 new plays.1 plays.5 ∙ plays.2.writers
 
-closes_leave : (setup : Setup) (buffers : List Buffer) (producers : List ℕ) (old new : World) (notes : List FlushNote)
+closes_leave : (setup : Setup) (buffers : List Buffer) (producers : List ℕ) (old new : World) (notes : List ActNote)
     → Plays setup buffers (map CloseProducer producers) old new notes → new.writers ≡ old.writers
 closes_leave setup buffers [] old new notes plays = ap (λ (w : World). w.writers) plays.0
 closes_leave setup buffers (producer ∷ producers) old new notes plays = closes_leave setup buffers producers plays.0 new plays.1 plays.5 ∙ plays.2.writers
 
 -- ---- one writer
 
-module _ (scenario : Parts) (setup : Setup) (world : World) (notes : List FlushNote) (played : IsPlayed scenario setup world notes)
+module _ (scenario : Parts) (setup : Setup) (world : World) (notes : List ActNote) (played : IsPlayed scenario setup world notes)
     (playable : IsPlayable scenario) (enough : HasEnough scenario) (place : ℕ) (spec : WriterSpec) (get : slice_get scenario.writers place ≡ Some spec) where
   abbrev buffers : List Buffer
   buffers = buffers_of scenario setup
@@ -211,6 +214,13 @@ module _ (scenario : Parts) (setup : Setup) (world : World) (notes : List FlushN
         );
   }
 
+  -- nothing of the sequence came by a commit
+  none_came : NoneCommitted closes_done.mid.service (sequence_of place)
+  none_came =
+      let grows = plays_grow setup buffers (reads_from 1 scenario.buffers) closes_done.mid world closes_done.more closes_done.second behind_closes.0 in
+      let none = schedule_committed_none scenario setup buffers world notes place played.plays (none_has_raw scenario.lines place enough.no_raw) in
+      λ k one is. none k one (grows.commits k one is)
+
   finishes : Finishes (place + 2) (length (done.wrote place (within scenario setup world done place spec get)).cut.cut.pages) (begun_count (writer world place).calls) 0 false
       (history_of world.service)
   finishes =
@@ -220,7 +230,7 @@ module _ (scenario : Parts) (setup : Setup) (world : World) (notes : List FlushN
       (learnt closes_done.mid (owned_itself closes_done.mid behind_closes.1) place) (named closes_done.mid (owned_itself closes_done.mid behind_closes.1) place)
       (begun_count (writer world place).calls) (length own.cut.cut.pages) closes_done.mid.service.events beginning
       (at_stage (taken_of closes_done.mid.service place).count (is_shut (sequence_of place) closes_done.mid.service.events))
-      (behind_closes.0.sorted.lead place low) shut all_come read_out.events
+      (behind_closes.0.sorted.lead place low none_came) shut all_come read_out.events
       (has_read scenario setup world done playable enough place spec get (history_of closes_done.mid.service) read_out.events read_last))
 
 pub every_enough_replay_is_complete : EveryEnoughReplayIsComplete

@@ -1,6 +1,7 @@
 -- What is done, act by act, when a scenario is replayed.
 use Rattle.std.specs.Prelude.{ℕ, ◌==◌, List, [], ◌∷◌, ◌++◌, map, if◌then◌else◌}
 use Rattle.trace_model.specs.Calls.{Call}
+use Rattle.scenario_text.specs.RawChunks.{AskedChunk}
 
 -- An act of a writer, of the service, or of a writer that answers a flush request. Writers have places, counted from 0; producers and
 -- buffers count from 1.
@@ -19,6 +20,8 @@ pub data Act : Type 0 where
   CloseProducer : (producer : ℕ) → Act
   -- so many packets of the buffer are read at most
   ReadAll : (buffer limit : ℕ) → Act
+  -- a chunk is committed in the name of the writer, whoever wrote it
+  CommitRaw : (place : ℕ) → AskedChunk → Act
 
 -- the writer is asked for these calls, one after another
 abbrev pub asks : (place : ℕ) → List Call → List Act

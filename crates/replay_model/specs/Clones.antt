@@ -6,7 +6,6 @@ use Rattle.trace_model.specs.Buffers.{Buffer}
 use Rattle.trace_model.specs.Delivery.{records_of}
 use Rattle.trace_model.specs.Packets.{emissions_of}
 use Rattle.trace_model.specs.Tells.{Tells}
-use Rattle.scenario_text.specs.declared.scenario.LineKind.{LineKind}
 use Rattle.scenario_text.specs.declared.scenario.NumberedLine.{NumberedLine}
 use Rattle.scenario_text.specs.Clones.{clones_by, clones_in, without_clones}
 use Rattle.scenario_text.specs.Emissions.{emitted_in}
@@ -18,9 +17,10 @@ use Rattle.trace_buffer.specs.Clones.{cloned}
 use Rattle.buffer_clone.specs.Clones.{clone_records}
 use Rattle.service_core.specs.Routing.{buffer_at}
 use Rattle.replay_model.specs.Enough.{HasEnough, IsPlayable}
-use Rattle.replay_model.specs.Flushes.{FlushNote}
+use Rattle.replay_model.specs.ActNotes.{ActNote}
 use Rattle.replay_model.specs.Played.{IsSetupOf, Replays, buffers_of, buffers_in}
 use Rattle.replay_model.specs.Plays.{Plays}
+use Rattle.scenario_text.specs.Raws.{HasNoRaw}
 use Rattle.replay_model.specs.Schedule.{acts_of, acts_from, last_acts, schedule_of}
 
 -- ---- the clones
@@ -39,15 +39,17 @@ clone_in scenario setup world number = cloned (buffer_at (buffers_in scenario se
 abbrev pub MakeClones : Parts → Setup → (before lines : List NumberedLine) → (world last : World) → List Buffer → Type 0
 MakeClones scenario setup before [] world last clones = (last ≡ world) × (clones ≡ [])
 MakeClones scenario setup before (line ∷ lines) world last clones =
-    (next : World) × (notes : List FlushNote) × (later : List Buffer)
+    (next : World) × (notes : List ActNote) × (later : List Buffer)
     × Plays setup (buffers_of scenario setup) (acts_of scenario before line.what) world next notes
     × (clones ≡ map (clone_in scenario setup next) (clones_by line.what) ++ later)
     × MakeClones scenario setup (before ++ line ∷ []) lines next last later
 
 -- What is read of the clone of the buffer with this number tells, sequence by sequence, of the packets that the sequence's writer had
--- emitted in this world: exact, whole, once and in order, the first one marked.
-abbrev pub CloneTells : Parts → Setup → World → (number : ℕ) → Type 0
-CloneTells scenario setup world number = (place : ℕ) (spec : WriterSpec) → slice_get scenario.writers place ≡ Some spec → spec.buffer ≡ number
+-- emitted in this world, behind these lines: exact, whole, once and in order, the first one marked. None of the lines commits a chunk in
+-- the writer's name.
+abbrev pub CloneTells : Parts → Setup → (before : List NumberedLine) → World → (number : ℕ) → Type 0
+CloneTells scenario setup before world number = (place : ℕ) (spec : WriterSpec) → slice_get scenario.writers place ≡ Some spec
+    → spec.buffer ≡ number → HasNoRaw before place
     → Tells (emissions_of (writer world place).calls) (sequence_of place)
     (records_of (sequence_of place) (clone_records (clone_in scenario setup world number)))
 
@@ -60,11 +62,11 @@ pub record ReplaysCloning (scenario : Parts) (old new : Intake) (text : List ℕ
   -- the world behind the last line, and in front of the end
   pub between : World
   pub make : MakeClones scenario replays.setup [] scenario.lines (first_world replays.setup) between clones
-  pub notes : List FlushNote
+  pub notes : List ActNote
   pub ends : Plays replays.setup (buffers_of scenario replays.setup) (last_acts scenario) between replays.world notes
-  pub tell : (before lines : List NumberedLine) (world : World) (noted : List FlushNote) (number : ℕ) → scenario.lines ≡ before ++ lines
+  pub tell : (before lines : List NumberedLine) (world : World) (noted : List ActNote) (number : ℕ) → scenario.lines ≡ before ++ lines
       → Plays replays.setup (buffers_of scenario replays.setup) (acts_from scenario [] before) (first_world replays.setup) world noted
-      → CloneTells scenario replays.setup world number
+      → CloneTells scenario replays.setup before world number
 
 -- each clone is as its buffer is made
 abbrev pub AreMadeFor : Parts → List Buffer → Type 0
@@ -89,7 +91,7 @@ ClonesChangeNoReplay = (scenario : Parts) (old new : Intake) (text : List ℕ) �
 
 -- A clone that is made between any two lines tells of what its writers had emitted by then.
 abbrev pub EveryCloneTells : Type 0
-EveryCloneTells = (scenario : Parts) (setup : Setup) (before lines : List NumberedLine) (world : World) (notes : List FlushNote) (number : ℕ)
+EveryCloneTells = (scenario : Parts) (setup : Setup) (before lines : List NumberedLine) (world : World) (notes : List ActNote) (number : ℕ)
     → IsSetupOf scenario setup → IsPlayable scenario → scenario.lines ≡ before ++ lines
     → Plays setup (buffers_of scenario setup) (acts_from scenario [] before) (first_world setup) world notes
-    → CloneTells scenario setup world number
+    → CloneTells scenario setup before world number

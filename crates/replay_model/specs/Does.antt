@@ -1,5 +1,5 @@
 -- What each act makes of a world. Looks of the service are free, and what each chunk is used for follows from the views by ownership.
-use Rattle.std.specs.Prelude.{◌≡◌, ◌≢◌, ℕ, zero, suc, ◌+◌, ◌<◌, ◌==◌, Bool, true, false, None, List, [], ◌∷◌, ◌++◌, length, MatchBool}
+use Rattle.std.specs.Prelude.{◌≡◌, ◌≢◌, ℕ, zero, suc, ◌+◌, ◌<◌, ◌==◌, Bool, true, false, None, List, [], ◌∷◌, ◌++◌, length, MatchBool, if◌then◌else◌}
 use Rattle.std.specs.List.{flat_map, list_any}
 use Rattle.trace_base.specs.declared.policy.WriterPolicy.{WriterPolicy}
 use Rattle.trace_base.specs.declared.policy.WriterPolicy.TheVariants.{Drops, Stalls, StallsThenDrops}
@@ -10,10 +10,12 @@ use Rattle.trace_model.specs.Images.{Image}
 use Rattle.trace_model.specs.Packets.{packets_of, account_of, is_writing}
 use Rattle.chunk_plain.specs.Owned.{IsOwned}
 use Rattle.chunk_plain.specs.Setup.{Setup, range_of, producer_of, sequence_of}
+use Rattle.chunk_plain.specs.Steps.{notes_commit}
 use Rattle.chunk_plain.specs.Views as views
 use Rattle.chunk_plain.specs.Views.{Look, Noted, Closed, BegunChunk, ServiceView, WriterView}
 use Rattle.chunk_plain.specs.World.{World, writer}
 use Rattle.chunk_plain.specs.Histories.{completed_images, history_of}
+use Rattle.scenario_text.specs.RawChunks.{AskedChunk}
 use Rattle.claim_arbiter.specs.Claiming.{NoneFree, AllClaimed, ClaimsInTurn, lost_asks}
 use Rattle.world_model.specs.FirstBuffers.{payload_at}
 use Rattle.world_model.specs.Accounts.{HasCut}
@@ -26,14 +28,15 @@ use Rattle.trace_writer.specs.Laws.{IsHeldImage}
 use Rattle.trace_writer.specs.Losing.{LosesBehind}
 use Rattle.trace_writer.specs.Outcomes.{NewestIsWhole}
 use Rattle.trace_writer.specs.OwnSteps.{KeepsChunks, NoneHeld}
-use Rattle.service_core.specs.Agreement.{spec_at, AreKnownNotes}
+use Rattle.service_core.specs.Agreement.{spec_at, buffer_of, AreKnownNotes}
 use Rattle.service_core.specs.Closing.{TakesAndCloses}
 use Rattle.service_core.specs.Reading.{reads_in, noted_read}
 use Rattle.service_core.specs.Scraping.{parts_held}
 use Rattle.service_core.specs.Looking.{looked}
 use Rattle.service_core.specs.Taking.{Takes, places_of, noted_more}
 use Rattle.service_core.specs.Told.{NoneLeft}
-use Rattle.replay_model.specs.Acts.{Act, Ask, Request, Answer, Collect, Scrape, CloseProducer, ReadAll}
+use Rattle.replay_model.specs.Acts.{Act, Ask, Request, Answer, Collect, Scrape, CloseProducer, ReadAll, CommitRaw}
+use Rattle.replay_model.specs.Raws.{raw_commit}
 
 -- ---- the service
 
@@ -85,6 +88,13 @@ pub record Reads (setup : Setup) (buffers : List Buffer) (buffer limit : ℕ) (o
   pub writers : new.writers ≡ old.writers
   pub notes : new.service
       ≡ noted_more old.service (flat_map noted_read (reads_in setup (buffers_after buffers (history_of old.service)) buffer limit))
+
+-- A chunk is committed in the name of the writer at this place, whose sequence no note closed: the service notes it, where it is for the buffer of the writer's sequence,
+-- and else nothing is changed.
+pub record Commits (setup : Setup) (place : ℕ) (chunk : AskedChunk) (old new : World) : Type 0 where
+  pub opened : is_shut (sequence_of place) old.service.events ≡ false
+  pub writers : new.writers ≡ old.writers
+  pub notes : new.service ≡ (if buffer_of setup place == chunk.buffer then notes_commit old.service (raw_commit setup place chunk) else old.service)
 
 -- ---- a writer
 
@@ -229,3 +239,4 @@ Does setup buffers (Collect producer) old new = Collects setup producer old new
 Does setup buffers (Scrape producer) old new = Scrapes setup producer old new
 Does setup buffers (CloseProducer producer) old new = Closes setup producer old new
 Does setup buffers (ReadAll buffer limit) old new = Reads setup buffers buffer limit old new
+Does setup buffers (CommitRaw place chunk) old new = Commits setup place chunk old new

@@ -12,6 +12,7 @@ use Rattle.scenario_text.specs.declared.scenario.NumberedLine.{NumberedLine}
 use Rattle.scenario_text.specs.Scenario.{Parts}
 use Rattle.scenario_text.specs.Accepted.{calls_asked, is_closed_by, AsksWell}
 use Rattle.scenario_text.specs.Limits.{IsSetUp}
+use Rattle.scenario_text.specs.Raws.{RawsNone}
 
 -- the producers that a line closes, of which the first has this number
 abbrev pub closed_from : List NumberedLine → (number : ℕ) → List ProducerLine → List ℕ
@@ -29,11 +30,11 @@ loads_from lines number [] = []
 loads_from lines number (spec ∷ specs) =
     record { spec = spec; emitted = emissions_of (calls_asked number lines) } ∷ loads_from lines (suc number) specs
 
--- No line closes a producer, and chunks and bytes are enough for all that the lines have writers emit.
-abbrev pub HasEnough : Parts → Type 0
-HasEnough scenario =
-    IsEnough (closed_from scenario.lines 1 scenario.producers) (map (λ (line : BufferLine). line.kb * BYTES_PER_KB) scenario.buffers)
-    (map room_of scenario.producers) (loads_from scenario.lines 1 scenario.writers)
+-- No line closes a producer or commits a chunk, and chunks and bytes are enough for all that the lines have writers emit.
+pub record HasEnough (scenario : Parts) : Type 0 where
+  pub no_raw : RawsNone scenario.lines
+  pub enough : IsEnough (closed_from scenario.lines 1 scenario.producers) (map (λ (line : BufferLine). line.kb * BYTES_PER_KB) scenario.buffers)
+      (map room_of scenario.producers) (loads_from scenario.lines 1 scenario.writers)
 
 -- What the grammar gives of each scenario: the lines are no more than a count can tell, the set-up is within its limits, and each writer
 -- accepts what its lines ask and ends its last packet.

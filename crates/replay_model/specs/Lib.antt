@@ -1,3 +1,4 @@
+pub mod ActNotes
 pub mod Acts
 pub mod Clones
 pub mod Does
@@ -7,5 +8,6 @@ pub mod Flushes
 pub mod Laws
 pub mod Played
 pub mod Plays
+pub mod Raws
 pub mod Schedule
 pub mod Written

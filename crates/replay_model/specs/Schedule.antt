@@ -8,9 +8,10 @@ use Rattle.scenario_text.specs.declared.scenario.ProducerLine.{ProducerLine}
 use Rattle.scenario_text.specs.declared.scenario.NumberedLine.{NumberedLine}
 use Rattle.scenario_text.specs.declared.scenario.LineKind.{LineKind}
 use Rattle.scenario_text.specs.declared.scenario.LineKind.TheVariants as line
+use Rattle.scenario_text.specs.RawChunks.{AskedChunk}
 use Rattle.scenario_text.specs.Scenario.{Parts}
 use Rattle.scenario_text.specs.Accepted.{line_calls, is_closed_by}
-use Rattle.replay_model.specs.Acts.{Act, Ask, Request, Answer, Collect, Scrape, CloseProducer, ReadAll, asks}
+use Rattle.replay_model.specs.Acts.{Act, Ask, Request, Answer, Collect, Scrape, CloseProducer, ReadAll, CommitRaw, asks}
 
 -- ---- what is open behind these lines
 
@@ -48,6 +49,11 @@ abbrev pub answers_late : (number : ℕ) → Bool → List Act
 answers_late zero due = []
 answers_late (suc place) due = if due then Answer place ∷ [] else []
 
+-- a chunk is committed in the name of the writer with this number
+abbrev pub commits_of : (number : ℕ) → AskedChunk → List Act
+commits_of zero chunk = []
+commits_of (suc place) chunk = CommitRaw place chunk ∷ []
+
 -- the acts of a line behind these lines
 abbrev pub acts_of : Parts → List NumberedLine → LineKind → List Act
 acts_of scenario before (line.Packet writer fields) = asked_of writer (line_calls writer (line.Packet writer fields))
@@ -64,6 +70,7 @@ acts_of scenario before (line.Read buffer limit) = ReadAll buffer limit ∷ []
 acts_of scenario before line.Request =
     Request ∷ map Answer (open_places before 0 scenario.writers) ++ map Collect (open_producers before 1 scenario.producers)
 acts_of scenario before (line.CloneBuffer buffer) = []
+acts_of scenario before (line.Raw writer chunk) = commits_of writer chunk
 
 -- the acts of these lines, one behind another
 abbrev pub acts_from : Parts → (before : List NumberedLine) → List NumberedLine → List Act

@@ -27,7 +27,8 @@ pub fn replays_are_accounts()
     ensures { ReplaysAreAccounts }
 {}
 
-/// The records that are written are faithful to the packets that the lines have writers emit.
+/// The records that are written are faithful to the packets that the lines have writers emit, of each
+/// writer in whose name no line commits a chunk.
 pub fn every_replay_is_faithful()
     ensures { EveryReplayIsFaithful }
 {}
@@ -38,7 +39,7 @@ pub fn every_front_is_faithful()
     ensures { EveryFrontIsFaithful }
 {}
 
-/// The report of what the lines lead to counts every packet once.
+/// The report of what the lines lead to counts every packet of these writers once.
 pub fn every_report_is_balanced()
     ensures { EveryReportIsBalanced }
 {}
@@ -53,7 +54,7 @@ pub fn every_enough_replay_is_complete()
     ensures { EveryEnoughReplayIsComplete }
 {}
 
-/// The report's counts are those of the packets' outcomes.
+/// The report's counts of these writers are those of their packets' outcomes.
 pub fn every_report_counts_packets()
     ensures { EveryReportCountsPackets }
 {}
@@ -65,7 +66,8 @@ pub fn every_flush_stays_cut()
 {}
 
 /// Once as many chunks of a writer are taken as it had completed when it flushed, the next read of its
-/// buffer without limit fixes the outcome of each packet that it had emitted by then.
+/// buffer without limit fixes the outcome of each packet that it had emitted by then, where no chunk was
+/// committed in its name.
 pub fn every_flush_is_settled()
     ensures { EveryFlushIsSettled }
 {}
@@ -94,7 +96,7 @@ pub fn clones_change_no_replay()
 {}
 
 /// A clone that is made between any two lines tells of the packets that its writers had emitted by
-/// then.
+/// then, of each in whose name no line before it commits a chunk.
 pub fn every_clone_tells()
     ensures { EveryCloneTells }
 {}

@@ -13,13 +13,13 @@ use Rattle.chunk_plain.specs.Owned.{IsOwned}
 use Rattle.chunk_plain.specs.Histories.{completed_images}
 use Rattle.chunk_plain.proofs.MadeLemmas.{first_owned}
 use Rattle.world_model.specs.FirstBuffers.{payload_at}
-use Rattle.world_model.specs.Accounts.{all_images, HasCut, InOrder, IsAccount}
+use Rattle.world_model.specs.Accounts.{all_images, HasCut, InOrder, IsAccount, NoneCommitted}
 use Rattle.world_model.proofs.FaithfulLemmas.{told_of, every_account_is_faithful}
 use Rattle.service_core.proofs.AccountLemmas.{leads_are_in_order}
 use Rattle.replay_model.specs.Written.{HasWritten}
 use Rattle.chunk_schedules.specs.Moves.{Move}
 use Rattle.chunk_schedules.specs.Schedules.{IsSchedule}
-use Rattle.schedule_laws.specs.Resting.{AreBetweenCalls, IsNotedInOrder, AreNotedInOrder}
+use Rattle.schedule_laws.specs.Resting.{AreBetweenCalls, IsNotedInOrder, AreOwnInOrder}
 use Rattle.schedule_laws.specs.Laws.{SchedulesAreAccounts, EveryScheduleIsFaithful, EverySequenceIsTold, EveryServedScheduleIsFaithful}
 use Rattle.schedule_laws.proofs.BetweenLemmas.{has_written}
 use Rattle.schedule_laws.proofs.CommitLemmas.{none_committed, serving_is_in_order}
@@ -42,7 +42,7 @@ in_order setup world place owned wrote noted =
 -- ---- the account
 
 module _ (setup : Setup) (world : World) (laid : IsLaid setup) (owned : IsOwned world) (between : AreBetweenCalls setup world)
-    (noted : AreNotedInOrder setup world.service) where
+    (noted : AreOwnInOrder setup world.service) where
   wrote : (place : ℕ) → place < length setup.writers → HasWritten setup place (writer world place)
   wrote place inside = has_written setup place (writer world place) laid (between place inside)
 
@@ -61,9 +61,10 @@ module _ (setup : Setup) (world : World) (laid : IsLaid setup) (owned : IsOwned 
   begun_by place (inr past) low = absurd (omega (arith, past, low))
 
   order_by : (place : ℕ) (c : (place < length setup.writers) ⊎ (length setup.writers ≤ place)) → place < length setup.writers
+      → NoneCommitted world.service (sequence_of place)
       → InOrder (all_images (writer world place) (held_by place c)) world.service (sequence_of place) 0 false [] world.service.events
-  order_by place (inl inside) low = in_order setup world place owned (wrote place inside) (noted place inside)
-  order_by place (inr past) low = absurd (omega (arith, past, low))
+  order_by place (inl inside) low none = in_order setup world place owned (wrote place inside) (noted place inside none)
+  order_by place (inr past) low none = absurd (omega (arith, past, low))
 
   account_of : length world.writers ≡ length setup.writers → IsAccount setup world
   account_of many = record {
@@ -72,7 +73,7 @@ module _ (setup : Setup) (world : World) (laid : IsLaid setup) (owned : IsOwned 
     held = λ place. held_by place (cases_lt place (length setup.writers));
     cuts = λ place low. cut_by place (cases_lt place (length setup.writers)) (omega (arith, low, many));
     begun = λ place low. begun_by place (cases_lt place (length setup.writers)) (omega (arith, low, many));
-    order = λ place low. order_by place (cases_lt place (length setup.writers)) (omega (arith, low, many));
+    order = λ place low none. order_by place (cases_lt place (length setup.writers)) (omega (arith, low, many)) none;
   }
 
 pub schedules_are_accounts : SchedulesAreAccounts
@@ -98,6 +99,10 @@ every_sequence_is_told setup buffers moves world laid schedule place inside betw
     setup buffers spec get (in_order setup world place owned wrote noted)
 
 pub every_served_schedule_is_faithful : (S : Type 0) → EveryServedScheduleIsFaithful S
-every_served_schedule_is_faithful S setup buffers moves world core laid schedule between agrees none =
-    every_schedule_is_faithful setup buffers moves world laid schedule between
-    (λ place inside. serving_is_in_order S setup world.service core agrees place inside (none_committed setup moves world (sequence_of place) schedule (none place inside)))
+every_served_schedule_is_faithful S setup buffers moves world core laid schedule between agrees =
+    let faithful = every_schedule_is_faithful setup buffers moves world laid schedule between
+    (λ place inside none. serving_is_in_order S setup world.service core agrees place inside none) in
+    record {
+      known = faithful.known;
+      told = λ place packets none e. faithful.told place packets (none_committed setup moves world (sequence_of place) schedule none) e;
+    }

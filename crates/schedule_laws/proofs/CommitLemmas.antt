@@ -1,26 +1,15 @@
 -- What comes by commits in a schedule, and what is noted in order.
-use Rattle.std.proofs.Common.{◌≡◌, ℕ, zero, suc, false, List, [], ◌∷◌, ◌++◌, Some, refl, sym, subst}
-use Rattle.std.specs.Prelude.{◌==◌, slice_get}
+use Rattle.std.proofs.Common.{◌≡◌, ℕ, List, [], ◌∷◌, refl, sym, subst}
 use Rattle.chunk_plain.specs.Setup.{Setup}
-use Rattle.chunk_plain.specs.Views.{Committed, ServiceView, taken_of}
+use Rattle.chunk_plain.specs.Views.{ServiceView, taken_of}
 use Rattle.chunk_plain.specs.World.{World, Status, Unclaimed, Claimed, Stamped, Writing, Ready, Reading, status}
 use Rattle.chunk_plain.specs.Plain.{first_world}
-use Rattle.service_core.specs.Agreement.{NoneCommitted, is_closed}
+use Rattle.world_model.specs.Accounts.{NoneCommitted}
+use Rattle.service_core.specs.Agreement.{is_closed}
+use Rattle.replay_model.proofs.RawLemmas.{none_committed_more, none_committed_yet}
 use Rattle.chunk_schedules.specs.Moves.{Move, Claims, Stamps, Begins, SetsHeader, Publishes, Completes, Calls, Looks, Takes, Learns, Releases, Notes, Commits, HearsOf, Answers, Requests, ReadsAnswer, claimed_in, behind}
 use Rattle.chunk_schedules.specs.Schedules.{IsSchedule, CommitsNone}
 use Rattle.schedule_laws.specs.Laws.{ServingIsInOrder}
-
--- none of these commits brought an image of the sequence
-abbrev AllElsewhere : ℕ → List Committed → Type 0
-AllElsewhere sequence commits = (at : ℕ) (one : Committed) → slice_get commits at ≡ Some one → (one.image.sequence == sequence) ≡ false
-
-one_more : (sequence : ℕ) (commits : List Committed) (next : Committed) → AllElsewhere sequence commits → (next.image.sequence == sequence) ≡ false
-    → AllElsewhere sequence (commits ++ next ∷ [])
-one_more sequence [] next all last zero one is =
-    let same : next ≡ one = cc in subst (λ (c : Committed). (c.image.sequence == sequence) ≡ false) same last
-one_more sequence [] next all last (suc at) one is = absurd (cc)
-one_more sequence (first ∷ commits) next all last zero one is = all 0 one is
-one_more sequence (first ∷ commits) next all last (suc at) one is = one_more sequence commits next (λ n other e. all (suc n) other e) last at one is
 
 claimed_commits : (world : World) (place chunk found : ℕ) (is : Status) → (claimed_in world place chunk found is).service ≡ world.service
 claimed_commits world place chunk found Unclaimed = refl
@@ -31,11 +20,11 @@ claimed_commits world place chunk found (Ready other position content) = refl
 claimed_commits world place chunk found (Reading other position content) = refl
 
 commits_elsewhere : (setup : Setup) (sequence : ℕ) (old new : World) (moves : List Move) → IsSchedule setup old moves new → CommitsNone sequence moves
-    → AllElsewhere sequence old.service.commits → AllElsewhere sequence new.service.commits
-commits_elsewhere setup sequence old new [] schedule none all = subst (λ (world : World). AllElsewhere sequence world.service.commits) (sym schedule) all
+    → NoneCommitted old.service sequence → NoneCommitted new.service sequence
+commits_elsewhere setup sequence old new [] schedule none all = subst (λ (world : World). NoneCommitted world.service sequence) (sym schedule) all
 commits_elsewhere setup sequence old new (Claims place chunk found ∷ moves) schedule none all =
     commits_elsewhere setup sequence (behind old (Claims place chunk found)) new moves schedule.1 none
-    (subst (λ (service : ServiceView). AllElsewhere sequence service.commits) (sym (claimed_commits old place chunk found (status old chunk))) all)
+    (subst (λ (service : ServiceView). NoneCommitted service sequence) (sym (claimed_commits old place chunk found (status old chunk))) all)
 commits_elsewhere setup sequence old new (Stamps place chunk ∷ moves) schedule none all =
     commits_elsewhere setup sequence (behind old (Stamps place chunk)) new moves schedule.1 none all
 commits_elsewhere setup sequence old new (Begins place chunk words ∷ moves) schedule none all =
@@ -59,7 +48,7 @@ commits_elsewhere setup sequence old new (Releases chunk ∷ moves) schedule non
 commits_elsewhere setup sequence old new (Notes event ∷ moves) schedule none all =
     commits_elsewhere setup sequence (behind old (Notes event)) new moves schedule.1 none all
 commits_elsewhere setup sequence old new (Commits committed ∷ moves) schedule none all =
-    commits_elsewhere setup sequence (behind old (Commits committed)) new moves schedule.1 none.1 (one_more sequence old.service.commits committed all none.0)
+    commits_elsewhere setup sequence (behind old (Commits committed)) new moves schedule.1 none.1 (none_committed_more old.service committed sequence all none.0)
 commits_elsewhere setup sequence old new (HearsOf place number ∷ moves) schedule none all =
     commits_elsewhere setup sequence (behind old (HearsOf place number)) new moves schedule.1 none all
 commits_elsewhere setup sequence old new (Answers place flush chunks ∷ moves) schedule none all =
@@ -73,7 +62,7 @@ commits_elsewhere setup sequence old new (ReadsAnswer place flush chunks ∷ mov
 pub none_committed : (setup : Setup) (moves : List Move) (world : World) (sequence : ℕ) → IsSchedule setup (first_world setup) moves world → CommitsNone sequence moves
     → NoneCommitted world.service sequence
 none_committed setup moves world sequence schedule none =
-    commits_elsewhere setup sequence (first_world setup) world moves schedule none (λ at one is. absurd (cc))
+    commits_elsewhere setup sequence (first_world setup) world moves schedule none (none_committed_yet (first_world setup).service sequence refl)
 
 -- a service that agrees with its view noted in order
 pub serving_is_in_order : (S : Type 0) → ServingIsInOrder S

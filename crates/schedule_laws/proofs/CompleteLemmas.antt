@@ -1,5 +1,5 @@
 -- Where chunks and bytes are enough, and all has come and was read, no packet is missing.
-use Rattle.std.proofs.Common.{◌≡◌, ◌∙◌, ℕ, suc, ◌+◌, ◌-◌, ◌*◌, ◌<◌, ◌≤◌, Bool, true, false, List, [], ◌∷◌, length, Some, refl, sym, ap, subst, arith, cond}
+use Rattle.std.proofs.Common.{◌≡◌, ◌∙◌, ℕ, suc, ◌+◌, ◌-◌, ◌*◌, ◌<◌, ◌≤◌, All, Bool, true, false, List, [], ◌∷◌, length, Some, refl, sym, ap, subst, arith, cond}
 use Rattle.std.specs.Prelude.{◌==◌, slice_get}
 use Rattle.std.proofs.Math.Nat.{mul-le-mul_right}
 use Rattle.std.proofs.lemmas.Bool.{eq-eqb}
@@ -12,11 +12,12 @@ use Rattle.trace_model.specs.Calls.{Call}
 use Rattle.trace_model.specs.Cut.{newest_goes_on}
 use Rattle.trace_model.specs.Enough.{most_chunks}
 use Rattle.trace_model.specs.History.{Event, delivered_to}
-use Rattle.trace_model.specs.Packets.{packets_of, emissions_of, begun_count}
+use Rattle.trace_model.specs.Packets.{packets_of, bodies_of, emissions_of, begun_count}
 use Rattle.trace_model.specs.Pages.{patches_of}
 use Rattle.trace_model.specs.Reads.{Delivery}
 use Rattle.trace_model.specs.Record.{record_of}
 use Rattle.trace_model.specs.Sequences.{Sequence, fresh, is_known}
+use Rattle.trace_model.specs.Walks.{is_accepted}
 use Rattle.model_laws.proofs.TextSizes.{all_finished}
 use Rattle.delivery_laws.specs.Finishing.{Finishes}
 use Rattle.delivery_laws.specs.Room.{asked, wanted}
@@ -79,7 +80,8 @@ wanted_few setup world buffer place (spec ∷ specs) few =
 
 module _ (setup : Setup) (buffers : List BufferSpec) (world : World) (laid : IsLaid setup) (owned : IsOwned world) (many : length world.writers ≡ length setup.writers)
     (between : AreBetweenCalls setup world) (noted : AreNotedInOrder setup world.service) (enough : HasChunksEnough setup world)
-    (place : ℕ) (spec : WriterSpec) (get : slice_get setup.writers place ≡ Some spec) (out : IsReadOut setup buffers world place spec) where
+    (place : ℕ) (spec : WriterSpec) (get : slice_get setup.writers place ≡ Some spec)
+    (accepted : All (λ (body : List ℕ). is_accepted body ≡ true) (bodies_of (writer world place).calls)) (out : IsReadOut setup buffers world place spec) where
   abbrev sequences : List Sequence
   sequences = sequences_from setup spec.buffer 0 setup.writers
 
@@ -140,14 +142,14 @@ module _ (setup : Setup) (buffers : List BufferSpec) (world : World) (laid : IsL
       let finishes : Finishes (place + 2) (length one.cut.cut.pages) (begun_count calls) 0 false history =
       subst (λ (n : ℕ). Finishes (place + 2) n (begun_count calls) 0 false history) (pages_begun setup place (writer world place) one) out.finishes in
       every_packet_is_delivered (payload_at setup place) calls one.cut.cut.pages out.buffer.size out.buffer.policy sequences (place + 2)
-      (record_size (size_of setup spec.producer)) history account whole finishes fits
+      (record_size (size_of setup spec.producer)) history account whole accepted finishes fits
 
 pub enough_misses_nothing : EnoughMissesNothing
-enough_misses_nothing setup buffers moves world laid schedule between noted enough place spec get out =
+enough_misses_nothing setup buffers moves world laid schedule between noted enough place spec get accepted out =
     let owned = owned_behind setup moves world schedule in
     let many = many_behind setup moves world schedule in
     let least = out.least in
-    let all = delivered_all setup buffers world laid owned many between noted enough place spec get out in
+    let all = delivered_all setup buffers world laid owned many between noted enough place spec get accepted out in
     let first : Buffer = empty_buffer out.buffer.size out.buffer.policy (sequences_from setup spec.buffer 0 setup.writers) in
     let once = once_here setup place spec get 1 buffers (spec.buffer - 1) out.buffer out.named (omega (arith, least)) in
     let records = ap (λ (xs : List (List ℕ)). length xs) (once_writes (place + 2) (history_of world.service) first (first_buffers setup 1 buffers) once) in

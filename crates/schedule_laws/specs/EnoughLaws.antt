@@ -1,12 +1,13 @@
 -- Where chunks and buffer bytes are enough no packet is missing, whichever schedule was taken.
-use Rattle.std.specs.Prelude.{◌≡◌, ℕ, suc, ◌+◌, ◌-◌, ◌*◌, ◌<◌, ◌≤◌, ◌⊎◌, ◌==◌, false, List, [], ◌∷◌, length, Some, slice_get, if◌then◌else◌}
+use Rattle.std.specs.Prelude.{◌≡◌, ℕ, suc, ◌+◌, ◌-◌, ◌*◌, ◌<◌, ◌≤◌, ◌⊎◌, ◌==◌, All, true, false, List, [], ◌∷◌, length, Some, slice_get, if◌then◌else◌}
 use Rattle.trace_base.specs.declared.policy.WriterPolicy.TheVariants.{Stalls}
 use Rattle.trace_base.specs.declared.policy.WriterSpec.{WriterSpec}
 use Rattle.page_geometry.specs.Sizes.{record_size}
 use Rattle.trace_model.specs.Delivery.{records_of}
 use Rattle.trace_model.specs.Enough.{most_chunks}
 use Rattle.trace_model.specs.History.{records_after}
-use Rattle.trace_model.specs.Packets.{packets_of, emissions_of, begun_count, is_writing, lost_count}
+use Rattle.trace_model.specs.Packets.{packets_of, bodies_of, emissions_of, begun_count, is_writing, lost_count}
+use Rattle.trace_model.specs.Walks.{is_accepted}
 use Rattle.delivery_laws.specs.Finishing.{Finishes}
 use Rattle.chunk_plain.specs.declared.setup.ProducerSpec.{ProducerSpec}
 use Rattle.chunk_plain.specs.Laying.{setup_of}
@@ -71,11 +72,13 @@ pub record IsReadOut (setup : Setup) (buffers : List BufferSpec) (world : World)
   pub room : bytes_from setup world spec.buffer 0 setup.writers ≤ buffer.size
   pub finishes : Finishes (sequence_of place) (length (writer world place).begun) (begun_count (writer world place).calls) 0 false (history_of world.service)
 
--- Then no packet of the writer is missing.
+-- Then no packet of the writer is missing, where each is one that the packet check accepts. (Calls may write any field, and a read
+-- passes as cut what the check refuses.)
 abbrev pub EnoughMissesNothing : Type 0
 EnoughMissesNothing = (setup : Setup) (buffers : List BufferSpec) (moves : List Move) (world : World) → IsLaid setup
     → IsSchedule setup (first_world setup) moves world
     → AreBetweenCalls setup world → AreNotedInOrder setup world.service → HasChunksEnough setup world
-    → (place : ℕ) (spec : WriterSpec) → slice_get setup.writers place ≡ Some spec → IsReadOut setup buffers world place spec
+    → (place : ℕ) (spec : WriterSpec) → slice_get setup.writers place ≡ Some spec
+    → All (λ (body : List ℕ). is_accepted body ≡ true) (bodies_of (writer world place).calls) → IsReadOut setup buffers world place spec
     → length (records_of (sequence_of place) (records_after (first_buffers setup 1 buffers) (history_of world.service)))
     ≡ length (emissions_of (writer world place).calls)

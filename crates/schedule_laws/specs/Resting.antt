@@ -4,6 +4,7 @@ use Rattle.std.specs.Prelude.{◌≡◌, ℕ, ◌<◌, [], length}
 use Rattle.chunk_plain.specs.Setup.{Setup, sequence_of}
 use Rattle.chunk_plain.specs.Views.{WriterView, ServiceView}
 use Rattle.chunk_plain.specs.World.{World, writer}
+use Rattle.world_model.specs.Accounts.{NoneCommitted}
 use Rattle.trace_writer.specs.declared.state.Writer.{Writer}
 use Rattle.trace_writer.specs.Core.{WriterAgrees}
 use Rattle.service_core.specs.Order.{Stage, LeadTo, beginning}
@@ -25,6 +26,10 @@ pub record IsNotedInOrder (service : ServiceView) (place : ℕ) : Type 0 where
   pub leads : LeadTo service (sequence_of place) beginning service.events last
   pub none_due : last.due ≡ []
 
--- and so is what it noted on each writer's sequence
+-- and so is what it noted on each writer's sequence of which nothing came by a commit
+abbrev pub AreOwnInOrder : Setup → ServiceView → Type 0
+AreOwnInOrder setup service = (place : ℕ) → place < length setup.writers → NoneCommitted service (sequence_of place) → IsNotedInOrder service place
+
+-- and on all of them
 abbrev pub AreNotedInOrder : Setup → ServiceView → Type 0
 AreNotedInOrder setup service = (place : ℕ) → place < length setup.writers → IsNotedInOrder service place

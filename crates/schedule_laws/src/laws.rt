@@ -5,12 +5,13 @@ ghost use Rattle.schedule_laws.specs.ReportLaws.{SequencesHaveAccounts, EveryPac
 ghost use Rattle.schedule_laws.specs.EnoughLaws.{SetupsAreApart, EnoughChunksLoseNothing, EnoughMissesNothing};
 
 /// What a schedule leads to is an account, where each writer is between two calls and the service noted
-/// in order.
+/// in order what didn't come by commits.
 pub fn schedules_are_accounts()
     ensures { SchedulesAreAccounts }
 {}
 
-/// So the records that are written are faithful to the emitted packets.
+/// So the records that are written are faithful to the emitted packets, of each sequence of which
+/// nothing came by a commit.
 pub fn every_schedule_is_faithful()
     ensures { EveryScheduleIsFaithful }
 {}
@@ -25,8 +26,8 @@ pub fn serving_is_in_order<S>()
     ensures { ServingIsInOrder S }
 {}
 
-/// So the records are faithful where the service is between two calls too, and nothing of a writer's
-/// sequence came by a commit.
+/// So the records are faithful where the service is between two calls too, of each writer's sequence of
+/// which no move commits an image.
 pub fn every_served_schedule_is_faithful<S>()
     ensures { EveryServedScheduleIsFaithful S }
 {}
@@ -51,7 +52,8 @@ pub fn enough_chunks_lose_nothing()
     ensures { EnoughChunksLoseNothing }
 {}
 
-/// And where bytes are enough too, and all has come and was read, no packet is missing.
+/// And where bytes are enough too, all has come and was read, and the packet check accepts each
+/// packet, none is missing.
 pub fn enough_misses_nothing()
     ensures { EnoughMissesNothing }
 {}
