@@ -28,7 +28,7 @@ use Rattle.service_core.specs.Agreement.{ServiceAgrees, KeepsTaking, first_of, s
 use Rattle.service_core.specs.Routing.{is_closed_at}
 use Rattle.replay_model.specs.Acts.{Ask, Answer}
 use Rattle.replay_model.specs.Does.{Asks}
-use Rattle.replay_model.specs.Flushes.{FlushNote, Answered}
+use Rattle.replay_model.specs.ActNotes.{ActNote, Answered}
 use Rattle.replay_model.specs.Plays.{Plays}
 use Rattle.replay_host.specs.declared.host.Host.{Host}
 use Rattle.replay_host.specs.Answering.{KeepsGoing, GoesOn, MayAnswer, HasAnswered, HasAnsweredBetween}
@@ -70,7 +70,6 @@ host_session {T} {W} {S} means old new host table writers specs opened keeps agr
           agrees = subst (λ (s : S). ServiceAgrees (means.setup old.table) (means.service_view old.table s) new.helper.service)
               (sym keeps.seat) agrees;
           reads = subst (λ (s : S). means.takes_reads old.table s) (sym keeps.seat) served.reads;
-          own = subst (λ (s : S). (means.service_view old.table s).commits ≡ []) (sym keeps.seat) served.own;
         };
       };
       apart = host.apart;
@@ -136,9 +135,9 @@ pub keeps_answer : {T W S : Type 0} (means : Meaning T W S) (place : ℕ) (old m
     → new.open_producers ≡ mid.open_producers
     → KeepsTaking mid.helper.service new.helper.service
     → new.helper.service.session ≡ left_as refusal mid.helper.service.session (with_answer mid.helper.service.session noted answer)
-    → new.flushes.made ≡ mid.flushes.made → vec_len new.flushes.chunks ≡ vec_len mid.flushes.chunks
+    → new.flushes.made ≡ mid.flushes.made → vec_len new.flushes.chunks ≡ vec_len mid.flushes.chunks → new.flushes.answers ≡ mid.flushes.answers
     → first_of (means.setup old.table) mid.helper.service ≡ first_of (means.setup old.table) old.helper.service → KeepsGoing means old new
-keeps_answer {T} {W} {S} means place old mid new refusal noted answer between asked table writers opened taking session_is made room first_kept = record {
+keeps_answer {T} {W} {S} means place old mid new refusal noted answer between asked table writers opened taking session_is made room told first_kept = record {
   setup_is = ap means.setup table ∙ asked.service.setup_is;
   first = first_session (means.setup old.table) mid.helper.service new.helper.service taking ∙ first_kept;
   opened = opened ∙ asked.books.opened;
@@ -152,6 +151,7 @@ keeps_answer {T} {W} {S} means place old mid new refusal noted answer between as
       (asked.ready coming (ready_answer means old.table old.writers.items place coming between ready)));
   made = made ∙ ap (λ (f : _). f.made) asked.books.flushes;
   room = room ∙ ap (λ (f : _). vec_len f.chunks) asked.books.flushes;
+  told = told ∙ ap (λ (f : _). f.answers) asked.books.flushes;
   state = ap (λ (s : SessionValue). s.state) session_is ∙ state_left refusal mid.helper.service.session noted answer
       ∙ ap (λ (s : SessionValue). s.state) asked.service.keeps.fields.session;
   requests = ap (λ (s : SessionValue). s.requests) session_is ∙ requests_left refusal mid.helper.service.session noted answer
@@ -171,7 +171,7 @@ keeps_answer {T} {W} {S} means place old mid new refusal noted answer between as
 
 -- ---- the act
 
-no_more : (notes : List FlushNote) → notes ≡ notes ++ []
+no_more : (notes : List ActNote) → notes ≡ notes ++ []
 no_more notes = sym (append-nil notes)
 
 -- the flush of a writer that has no packet begun is its answer, with the chunks that it has completed then
@@ -252,7 +252,7 @@ pub goes_waiting : {T W S : Type 0} (means : Meaning T W S) → AreLaws means �
 goes_waiting means laws place host core is at writing = record {
   host = is;
   keeps = keeps_going_none means host;
-  tally = λ notes writers tally. subst (λ (ns : List FlushNote). IsTally ns writers host.flushes) (sym (append-nil notes)) tally;
+  tally = λ notes writers tally. subst (λ (ns : List ActNote). IsTally ns writers host.flushes) (sym (append-nil notes)) tally;
   done = λ taken. record {
     setup_is = refl;
     first = refl;

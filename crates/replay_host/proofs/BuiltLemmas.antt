@@ -1,6 +1,6 @@
 -- From what the parts of a host are made with to what the host is.
 use Rattle.std.proofs.Common.{◌≡◌, ◌∙◌, ℕ, suc, ◌-◌, ◌<◌, ◌≤◌, true, false, List, [], length, map, replicate, vec_len, Some, slice_get, refl, sym, ap, subst, arith}
-use Rattle.std.specs.Prelude.{slice_index, slice_index_or}
+use Rattle.std.specs.Prelude.{slice_index, slice_index_or, vec_capacity}
 use Rattle.std.specs.List.{AllZip}
 use Rattle.std.proofs.lemmas.List.{length-map, length-replicate}
 use Rattle.std.proofs.lemmas.Option.{slice_get_within}
@@ -29,12 +29,14 @@ use Rattle.service_core.specs.Agreement.{ServiceAgrees, is_closed, spec_at, spec
 use Rattle.service_core.specs.Making.{IsUnused}
 use Rattle.service_core.proofs.MakeLemmas.{ranges_long}
 use Rattle.replay_model.specs.Played.{IsSpecOf}
+use Rattle.loss_report.specs.declared.raws.RawAnswer.{RawAnswer}
 use Rattle.replay_host.specs.declared.host.Host.{Host}
 use Rattle.replay_host.specs.Asking.{IsReadyFor}
 use Rattle.replay_model.specs.Flushes.{requests_in}
 use Rattle.replay_host.specs.Lines.{coming_at}
 use Rattle.replay_host.specs.Making.{IsMade, buffer_asked}
 use Rattle.replay_host.specs.Playing.{IsHost}
+use Rattle.replay_host.specs.Raws.{raws_in}
 use Rattle.replay_host.specs.Standing.{IsServed, Stands}
 use Rattle.replay_host.specs.Tally.{IsTally}
 use Rattle.replay_host.proofs.MakingLemmas.{asked_values}
@@ -70,6 +72,7 @@ pub record IsBuilt {T W S : Type 0} (means : Meaning T W S) (scenario : Parts) (
   pub flags : host.open_producers.items ≡ replicate (length scenario.producers) true
   pub tally : IsTally [] (length scenario.writers) host.flushes
   pub room : vec_len host.flushes.chunks ≡ requests_in scenario.lines
+  pub told_room : raws_in scenario.lines ≤ vec_capacity host.flushes.answers
 
 -- the service of the first world is unused
 pub unused : (setup : Setup) → IsUnused (length setup.writers) (first_world setup).service
@@ -90,7 +93,6 @@ module _ {T W S : Type 0} (means : Meaning T W S) (scenario : Parts) (specs : Li
         (subst (λ (v : ServiceView). ServiceAgrees (setup_of specs scenario.writers) v host.helper.service) (sym built.service_view)
         (built.agrees (first_world (setup_of specs scenario.writers)).service (unused (setup_of specs scenario.writers))));
     reads = built.reads;
-    own = ap (λ (v : ServiceView). v.commits) built.service_view;
   }
 
   built_stands : Stands means host.table host.writers.items host.helper.service
@@ -152,6 +154,8 @@ module _ {T W S : Type 0} (means : Meaning T W S) (scenario : Parts) (specs : Li
         room = let none = none_made in let room = built.room in omega (arith, none, room);
         few = let room = built.room in let requests = requests_few scenario.lines in let lines = short.few in omega
             (arith, room, requests, lines);
+        told_room = let none = ap (λ (xs : List RawAnswer). length xs) built.tally.told in let joined = host.flushes.answers.ok.0 in
+            let room = built.told_room in omega (arith, none, joined, room);
         started = ap (λ (s : SessionValue). s.state) built.session;
         requests = ap (λ (s : SessionValue). s.requests) built.session ∙ sym none_made;
       };

@@ -35,7 +35,7 @@ use Rattle.replay_host.proofs.MakingLemmas.{asked_values}
 -- ---- two set-ups of one scenario
 
 -- what is made of the same producer lines has chunks of the same sizes
-same_sizes : (lines : List ProducerLine) (one other : List ProducerSpec) → AllZip IsSpecOf lines one → AllZip IsSpecOf lines other → sizes_of one ≡ sizes_of other
+pub same_sizes : (lines : List ProducerLine) (one other : List ProducerSpec) → AllZip IsSpecOf lines one → AllZip IsSpecOf lines other → sizes_of one ≡ sizes_of other
 same_sizes [] [] [] first second = refl
 same_sizes [] [] (o ∷ other) first second = absurd second
 same_sizes [] (p ∷ one) other first second = absurd first

@@ -1,23 +1,19 @@
 -- Clones that are filled between the lines of a scenario.
-use Rattle.std.proofs.Common.{◌≡◌, ◌∙◌, ℕ, zero, suc, ◌+◌, ◌-◌, ◌<◌, ◌≤◌, Bool, true, false, cond, Some, List, [], ◌∷◌, ◌++◌, length, map, take, drop, get_or, set, refl, sym, ap, subst, arith, append_assoc, append-nil, Result, Ok, Err, IfOk}
-use Rattle.std.specs.Prelude.{IfErr, slice_get}
-use Rattle.std.proofs.lemmas.Option.{same_Some}
+use Rattle.std.proofs.Common.{◌≡◌, ◌∙◌, ℕ, ◌-◌, ◌<◌, Bool, true, cond, Some, List, [], ◌∷◌, ◌++◌, length, map, refl, sym, ap, subst, append_assoc, append-nil}
 use Rattle.byte_io.specs.Bytes.{Intake}
 use Rattle.trace_model.specs.Buffers.{Buffer}
-use Rattle.trace_model.specs.Delivery.{IsFaithful}
-use Rattle.trace_model.specs.History.{Event, buffers_after, state_after}
-use Rattle.trace_model.specs.Sequences.{Sequence}
+use Rattle.trace_model.specs.Delivery.{IsFaithfulOf}
+use Rattle.trace_model.specs.History.{buffers_after, state_after}
 use Rattle.trace_buffer.specs.Clones.{made_from, cloned}
 use Rattle.buffer_clone.proofs.NumberLemmas.{made_after}
 use Rattle.scenario_text.specs.declared.scenario.LineKind.{LineKind}
 use Rattle.scenario_text.specs.declared.scenario.LineKind.TheVariants as line
 use Rattle.scenario_text.specs.declared.scenario.NumberedLine.{NumberedLine}
 use Rattle.scenario_text.specs.Clones.{clones_by, clones_in, is_no_clone, other_lines, without_clones, ClonesNone}
-use Rattle.scenario_text.specs.Emissions.{emitted_in}
+use Rattle.scenario_text.specs.Raws.{HasNoRaw}
 use Rattle.scenario_text.specs.Scenario.{Parts}
 use Rattle.chunk_plain.specs.Histories.{history_of}
 use Rattle.chunk_plain.specs.Meaning.{Meaning}
-use Rattle.chunk_plain.specs.Plain.{first_world}
 use Rattle.chunk_plain.specs.Setup.{Setup}
 use Rattle.chunk_plain.specs.Views.{ServiceView}
 use Rattle.chunk_plain.specs.World.{World}
@@ -25,17 +21,16 @@ use Rattle.loss_report.specs.declared.counts.Done.{Done}
 use Rattle.service_core.specs.Agreement.{first_of}
 use Rattle.service_core.specs.Routing.{buffer_at}
 use Rattle.service_core.proofs.RouteLemmas.{at_after}
-use Rattle.replay_model.specs.Acts.{Act}
-use Rattle.replay_model.specs.Clones.{AreMadeFor, MakeClones, ReplaysCloning, clone_in, first_of_number}
-use Rattle.replay_model.specs.Flushes.{FlushNote}
-use Rattle.replay_model.specs.Played.{IsSetupOf, buffers_of}
+use Rattle.replay_model.specs.Clones.{AreMadeFor, MakeClones, clone_in, first_of_number}
+use Rattle.replay_model.specs.ActNotes.{ActNote}
+use Rattle.replay_model.specs.Played.{buffers_of}
 use Rattle.replay_model.specs.Plays.{Plays}
-use Rattle.replay_model.specs.Schedule.{acts_of, schedule_of}
-use Rattle.replay_model.proofs.CloneLemmas.{no_clone_asks}
+use Rattle.replay_model.specs.Schedule.{acts_of}
+use Rattle.replay_model.proofs.CloneLemmas.{no_clone_asks, own_others}
 use Rattle.replay_host.specs.declared.fault.HostFault.{HostFault}
 use Rattle.replay_host.specs.declared.fault.HostFault.TheVariants.{OutOfMemory, WriteFault, Stalled}
 use Rattle.replay_host.specs.declared.host.Host.{Host}
-use Rattle.replay_host.specs.Cloning.{AreAsMade, FitsClone, HaveCloned, HasReplayedCloning, clone_now}
+use Rattle.replay_host.specs.Cloning.{FitsClone, HaveCloned, HasReplayedCloning, clone_now}
 use Rattle.replay_host.specs.Playing.{IsHost, HasDone}
 use Rattle.replay_host.specs.Replaying.{HasReplayed, HasStopped, EndsEarly}
 use Rattle.replay_host.proofs.RoomLemmas.{room_after}
@@ -47,7 +42,7 @@ pub make_none : (scenario : Parts) (setup : Setup) (before : List NumberedLine) 
 make_none scenario setup before world = (refl, refl)
 
 -- one line more
-pub make_more : (scenario : Parts) (setup : Setup) (before lines : List NumberedLine) (one : NumberedLine) (world mid last : World) (notes : List FlushNote) (clones : List Buffer)
+pub make_more : (scenario : Parts) (setup : Setup) (before lines : List NumberedLine) (one : NumberedLine) (world mid last : World) (notes : List ActNote) (clones : List Buffer)
     → MakeClones scenario setup before lines world mid clones
     → Plays setup (buffers_of scenario setup) (acts_of scenario (before ++ lines) one.what) mid last notes
     → MakeClones scenario setup before (lines ++ one ∷ []) world last (clones ++ map (clone_in scenario setup last) (clones_by one.what))
@@ -79,7 +74,7 @@ module _ {T W S : Type 0} (means : Meaning T W S) (laws : AreLaws means) (scenar
   pub cloned_first : HaveCloned means scenario [] [] old old []
   cloned_first was told = (was, told, make_none scenario (means.setup old.table) [] was)
 
-  module _ (lines : List NumberedLine) (one : NumberedLine) (clones : List Buffer) (mid new : Host T W S) (between left : Intake) (notes : List FlushNote)
+  module _ (lines : List NumberedLine) (one : NumberedLine) (clones : List Buffer) (mid new : Host T W S) (between left : Intake) (notes : List ActNote)
       (so : HaveCloned means scenario [] lines old mid clones) (same : means.setup mid.table ≡ means.setup old.table)
       (first : first_of (means.setup mid.table) mid.helper.service ≡ buffers_of scenario (means.setup mid.table))
       (host : IsHost means new) (done : HasDone means (acts_of scenario lines one.what) notes mid between new left) where
@@ -162,6 +157,7 @@ none_other (one ∷ lines) none = by_kind one.what refl (none_other lines)
     by_kind (line.Close producer) is rest = keep rest (ap is_no_clone is) (ap clones_by is)
     by_kind (line.Read buffer limit) is rest = keep rest (ap is_no_clone is) (ap clones_by is)
     by_kind line.Request is rest = keep rest (ap is_no_clone is) (ap clones_by is)
+    by_kind (line.Raw writer chunk) is rest = keep rest (ap is_no_clone is) (ap clones_by is)
     by_kind (line.CloneBuffer buffer) is rest =
         let some : buffer ∷ clones_in lines ≡ [] = ap (λ (kind : LineKind). clones_by kind ++ clones_in lines) (sym is) ∙ none in
         absurd (cc)
@@ -197,7 +193,9 @@ stopped_without scenario fault old new stopped =
         halts = at.halts;
         takes = at.takes;
       };
-      faithful = subst (λ (emitted : List (List (List ℕ))). IsFaithful emitted at.records) (sym (no_clone_asks scenario).emitted) stopped.faithful;
+      faithful =
+          let own = subst (λ (emitted : List (List (List ℕ))). IsFaithfulOf (HasNoRaw scenario.lines) emitted at.records) (sym (no_clone_asks scenario).emitted) stopped.faithful in
+          record { known = own.known; told = λ place packets none. own.told place packets (own_others scenario place none) };
     }
 
 pub ends_without : (scenario : Parts) (fault : HostFault) (old new : Intake) → EndsEarly scenario fault old new → EndsEarly (without_clones scenario) fault old new

@@ -10,7 +10,6 @@ use Rattle.chunk_plain.specs.Views.{ServiceView}
 use Rattle.chunk_plain.specs.World.{World}
 use Rattle.service_core.specs.Agreement.{is_closed, first_of}
 use Rattle.service_core.specs.Closing.{ClosesAll, TakesAndCloses}
-use Rattle.service_core.specs.Taking.{places_of}
 use Rattle.service_core.specs.Told.{LeavesNone}
 use Rattle.service_core.proofs.AgreeLemmas.{first_stays}
 use Rattle.replay_model.specs.Acts.{CloseProducer}
@@ -20,7 +19,6 @@ use Rattle.replay_host.specs.declared.host.Host.{Host}
 use Rattle.replay_host.specs.Playing.{IsHost, HasDone}
 use Rattle.replay_host.specs.Standing.{IsServed, Stands}
 use Rattle.service_core.proofs.QuietLemmas.{adds_quiet, close_adds}
-use Rattle.service_core.proofs.AnswerLemmas.{takes_own}
 use Rattle.replay_host.proofs.RowLemmas.{AreLaws}
 use Rattle.replay_host.proofs.ServedLemmas.{quiet_writes}
 
@@ -58,11 +56,6 @@ closed_still means producer old new host mine stands same closes specs flags = r
       ap (λ (s : Setup). is_closed s new.helper.service place) same
       ∙ closes.others place here (λ is. stood.0 (sym named ∙ is)) ∙ host.opened asked was stood.1 place here named;
 }
-
--- no image comes by a commit where a producer is closed
-pub closes_own : (setup : Setup) (producer taken : ℕ) (old new : ServiceView) → TakesAndCloses setup producer taken old new → new.commits ≡ old.commits
-closes_own setup producer taken old new closes =
-    ap (λ (v : ServiceView). v.commits) closes.view ∙ takes_own setup (places_of producer 0 setup.writers) taken old closes.between closes.takes
 
 -- the closing of a producer, as an act
 pub close_done : {T W S : Type 0} (means : Meaning T W S) → AreLaws means → (producer taken : ℕ) (old new : Host T W S) → IsServed means old.table old.helper.service

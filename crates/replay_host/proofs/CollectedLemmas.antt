@@ -8,7 +8,7 @@ use Rattle.scenario_text.specs.Accepted.{is_closed_by}
 use Rattle.chunk_plain.specs.Meaning.{Meaning}
 use Rattle.chunk_plain.specs.Setup.{HasProducer}
 use Rattle.replay_model.specs.Acts.{Act, Collect}
-use Rattle.replay_model.specs.Flushes.{FlushNote}
+use Rattle.replay_model.specs.ActNotes.{ActNote}
 use Rattle.replay_model.specs.Schedule.{open_producers}
 use Rattle.replay_host.specs.declared.host.Host.{Host}
 use Rattle.replay_host.specs.Lines.{IsKept}
@@ -56,7 +56,7 @@ served_both means acts others old mid new one two = record {
 -- ---- producers
 
 -- there is a flag for each producer of the scenario
-pub flags_many : {T W S : Type 0} (means : Meaning T W S) (scenario : Parts) (before : List NumberedLine) (notes : List FlushNote)
+pub flags_many : {T W S : Type 0} (means : Meaning T W S) (scenario : Parts) (before : List NumberedLine) (notes : List ActNote)
     (host : Host T W S)
     → IsKept means scenario before notes host → length host.open_producers.items ≡ length scenario.producers
 flags_many means scenario before notes host kept = kept.is_host.producers ∙ ranges_many scenario (means.setup host.table) kept.laid
@@ -71,7 +71,7 @@ flag_producer means host index is inside = record {
 }
 
 -- a flag as it is read says whether a line has closed the producer
-pub flag_says : {T W S : Type 0} (means : Meaning T W S) (scenario : Parts) (before : List NumberedLine) (notes : List FlushNote)
+pub flag_says : {T W S : Type 0} (means : Meaning T W S) (scenario : Parts) (before : List NumberedLine) (notes : List ActNote)
     (old mid : Host T W S)
     (index : ℕ) (said : Bool) → IsKept means scenario before notes old → mid.open_producers ≡ old.open_producers
     → index < length scenario.producers

@@ -1,6 +1,6 @@
 -- What is counted once all is played is what the report says.
-use Rattle.std.proofs.Common.{◌≡◌, ◌∙◌, ℕ, zero, suc, ◌+◌, ◌-◌, ◌*◌, ◌^◌, ◌<◌, ◌≤◌, min, Some, List, [], ◌∷◌, ◌++◌, length, map, get_or, refl, sym, ap, subst, arith}
-use Rattle.std.specs.Prelude.{slice_get, vec_len}
+use Rattle.std.proofs.Common.{◌≡◌, ◌∙◌, ℕ, zero, suc, ◌+◌, ◌-◌, ◌*◌, ◌^◌, ◌<◌, ◌≤◌, min, Bool, true, false, Some, List, [], ◌∷◌, ◌++◌, length, map, get_or, refl, sym, ap, subst, arith}
+use Rattle.std.specs.Prelude.{slice_get, slice_index_or, vec_len}
 use Rattle.std.proofs.lemmas.List.{length-map}
 use Rattle.std.proofs.lemmas.Option.{slice_get_within, get_or_from_slice_get}
 use Rattle.trace_base.specs.declared.limits.TheConstants.{BYTES_PER_KB}
@@ -26,22 +26,29 @@ use Rattle.trace_writer.specs.declared.writer.WriterCore.{WriterCore}
 use Rattle.trace_writer.specs.Agreement.{counted}
 use Rattle.world_model.proofs.MakingLemmas.{first_long}
 use Rattle.scenario_text.specs.declared.scenario.BufferLine.{BufferLine}
+use Rattle.scenario_text.specs.declared.scenario.NumberedLine.{NumberedLine}
+use Rattle.scenario_text.specs.Raws.{has_raw, raw_numbers}
 use Rattle.scenario_text.specs.Scenario.{Parts}
 use Rattle.service_core.specs.declared.service.ServiceCore.{ServiceCore}
 use Rattle.service_core.specs.Agreement.{ServiceAgrees, first_of, buffer_of, spec_at, spec_value}
 use Rattle.service_core.specs.Routing.{buffer_at}
 use Rattle.service_core.proofs.RouteLemmas.{length_after}
 use Rattle.loss_report.specs.declared.counts.SequenceCounts.{SequenceCounts}
+use Rattle.loss_report.specs.declared.raws.RawLine.{RawLine}
+use Rattle.loss_report.specs.Raws.{raw_text}
 use Rattle.loss_report.specs.Report.{report_text}
 use Rattle.replay_model.specs.Enough.{IsPlayable}
-use Rattle.replay_model.specs.Flushes.{FlushNote, flush_sums}
-use Rattle.replay_model.specs.Played.{IsPlayed, buffer_specs, buffers_of, buffers_in, counts_from, packet_counts, printed, report_of}
+use Rattle.replay_model.specs.ActNotes.{ActNote, answers_in}
+use Rattle.replay_model.specs.Flushes.{flush_sums}
+use Rattle.replay_model.specs.Played.{IsPlayed, buffer_specs, buffers_of, buffers_in, counts_from, packet_counts, printed, report_of, report_with}
+use Rattle.replay_model.specs.Raws.{counts_by, raw_counts, raw_lines}
 use Rattle.replay_model.proofs.BalanceLemmas.{count_at, every_report_is_balanced}
 use Rattle.replay_model.proofs.PlayedLemmas.{setup_writers}
 use Rattle.replay_host.specs.declared.flushes.Flushes.{Flushes}
 use Rattle.replay_host.specs.declared.host.Host.{Host}
-use Rattle.replay_host.specs.Counting.{packets_left, buffers_now, packets_now, answers_to, IsReportOf, CountsAll}
+use Rattle.replay_host.specs.Counting.{packets_counted, packets_left, packets_of_either, buffers_now, packets_now, answers_to, IsReportOf, CountsAll}
 use Rattle.replay_host.specs.Playing.{IsHost}
+use Rattle.replay_host.specs.Raws.{AreMarked}
 use Rattle.replay_host.specs.Standing.{IsSeated}
 use Rattle.replay_host.specs.Tally.{IsTally}
 use Rattle.replay_host.proofs.RestLemmas.{sums_rest, none_over}
@@ -58,10 +65,10 @@ map_each f (x ∷ xs) [] long each = absurd (omega (arith, long))
 map_each f (x ∷ xs) (y ∷ ys) long each =
     ap (λ z. z ∷ ys) (each 0 x y refl) ∙ ap (λ zs. f x ∷ zs) (map_each f xs ys (omega (arith, long)) (λ i z d at. each (suc i) z d at))
 
-pub counts_long : (buffers : List Buffer) (world : World) (place : ℕ) (specs : List WriterSpec)
-    → length (counts_from buffers world place specs) ≡ length specs
-counts_long buffers world place [] = refl
-counts_long buffers world place (spec ∷ specs) = ap suc (counts_long buffers world (suc place) specs)
+pub counts_long : (lines : List NumberedLine) (buffers : List Buffer) (world : World) (place : ℕ) (specs : List WriterSpec)
+    → length (counts_from lines buffers world place specs) ≡ length specs
+counts_long lines buffers world place [] = refl
+counts_long lines buffers world place (spec ∷ specs) = ap suc (counts_long lines buffers world (suc place) specs)
 
 -- a host has as many buffers as its service was made with
 pub buffers_long : {T W S : Type 0} (means : Meaning T W S) (host : Host T W S)
@@ -109,6 +116,22 @@ pub left_same : (begun at_begin all dropped : ℕ) (state other : SequenceState)
     → packets_left begun at_begin state ≡ packets_left all dropped other
 left_same begun at_begin all dropped state other same_begun same_dropped same_state = cc
 
+-- other begun ones, of the same counts
+more_begun : (begun all delivered dropped overwritten discarded cut : ℕ) → begun ≡ all
+    → ◌≡◌ {A = SequenceCounts}
+    (record { begun = begun; delivered = delivered; dropped = dropped; overwritten = overwritten; discarded = discarded; cut = cut })
+    (record { begun = all; delivered = delivered; dropped = dropped; overwritten = overwritten; discarded = discarded; cut = cut })
+more_begun begun all delivered dropped overwritten discarded cut same = cc
+
+-- Of a sequence in whose name lines commit chunks as many were begun as losses and reads counted.
+pub counted_is : (policy : FullPolicy) (state : Sequence) → packets_counted (answers.state_of policy state) ≡ printed (raw_counts policy state)
+counted_is Ring state =
+    more_begun _ (raw_counts Ring state).begun state.delivered state.dropped state.lost 0 state.cut
+    (let same : min (state.delivered + state.dropped + state.lost + 0 + state.cut) last_count ≡ raised 0 (state.delivered + state.dropped + state.lost + state.cut) = omega arith in same)
+counted_is Discard state =
+    more_begun _ (raw_counts Discard state).begun state.delivered state.dropped 0 state.lost state.cut
+    (let same : min (state.delivered + state.dropped + 0 + state.lost + state.cut) last_count ≡ raised 0 (state.delivered + state.dropped + state.lost + state.cut) = omega arith in same)
+
 -- What no cause has is what is left of those that were begun, where each counts once.
 pub left_is : (policy : FullPolicy) (calls : List Call) (state : Sequence) → IsBalanced (counts_of policy calls state)
     → packets_left (counted (begun_count calls)) (counted (dropped_at_begin calls)) (answers.state_of policy state)
@@ -126,19 +149,33 @@ left_is Discard calls state balanced =
     same_counts _ _ _ counts.begun counts.dropped counts.cut state.delivered 0 state.lost (begun_is (begun_count calls)) dropped
     (cut_is _ _ counts.cut counts.begun counts.dropped state.delivered 0 state.lost (begun_is (begun_count calls)) dropped balanced.sum)
 
+-- So what is counted of a sequence is what the report says, whether lines commit chunks in its writer's name or not.
+pub either_is : (marked : Bool) (policy : FullPolicy) (calls : List Call) (state : Sequence) → (marked ≡ false → IsBalanced (counts_of policy calls state))
+    → packets_of_either marked (counted (begun_count calls)) (counted (dropped_at_begin calls)) (answers.state_of policy state)
+    ≡ printed (counts_by marked policy calls state)
+either_is true policy calls state balanced = counted_is policy state
+either_is false policy calls state balanced = left_is policy calls state (balanced refl)
+
 -- what is left in these buffers of the packets of the writer at this place
 abbrev pub left_in : (place : ℕ) → List Buffer → (index : ℕ) → List Call → SequenceCounts
 left_in place buffers index calls =
     packets_left (counted (begun_count calls)) (counted (dropped_at_begin calls))
     (answers.state_of (buffer_at buffers index).policy (sequence_in (buffer_at buffers index).sequences (sequence_of place)))
 
+-- or what is counted of them, where lines commit chunks in its name
+abbrev pub either_in : (place : ℕ) → (marked : Bool) → List Buffer → (index : ℕ) → List Call → SequenceCounts
+either_in place marked buffers index calls =
+    packets_of_either marked (counted (begun_count calls)) (counted (dropped_at_begin calls))
+    (answers.state_of (buffer_at buffers index).policy (sequence_in (buffer_at buffers index).sequences (sequence_of place)))
+
 -- ---- all of it
 
 module _ {T W S : Type 0} (means : Meaning T W S) (laws : AreLaws means) (host : Host T W S) (is_host : IsHost means host)
-    (scenario : Parts) (notes : List FlushNote)
+    (scenario : Parts) (notes : List ActNote)
     (world : World) (told : means.told host.table ≡ Some world) (played : IsPlayed scenario (means.setup host.table) world notes)
     (playable : IsPlayable scenario)
-    (first : first_of (means.setup host.table) host.helper.service ≡ buffers_of scenario (means.setup host.table)) where
+    (first : first_of (means.setup host.table) host.helper.service ≡ buffers_of scenario (means.setup host.table))
+    (marks : List Bool) (marked : AreMarked scenario.lines (length scenario.writers) marks) where
   abbrev setup : Setup
   setup = means.setup host.table
 
@@ -155,10 +192,11 @@ module _ {T W S : Type 0} (means : Meaning T W S) (laws : AreLaws means) (host :
   -- the counts of a writer are those of the report
   packets_are : (place : ℕ) (core : WriterCore W) (counts : PacketCounts) → slice_get host.writers.items place ≡ Some core
       → slice_get (packet_counts scenario (means.setup host.table) world) place ≡ Some counts
-      → packets_now means host place (means.view host.table core.seat).calls ≡ printed counts
+      → packets_now means host place (slice_index_or marks place false) (means.view host.table core.seat).calls ≡ printed counts
   packets_are place core counts at get =
       let buffers : List Buffer = buffers_in scenario setup world in
-      let count = count_at buffers world 0 scenario.writers place counts get in
+      let lines : List NumberedLine = scenario.lines in
+      let count = count_at lines buffers world 0 scenario.writers place counts get in
       let seated : IsSeated means host.table place core = is_host.stands.seated place core at in
       let row : writer world place ≡ means.view host.table core.seat =
       row_is means laws host.table world told place core.seat seated.sits seated.place_is in
@@ -168,28 +206,33 @@ module _ {T W S : Type 0} (means : Meaning T W S) (laws : AreLaws means) (host :
       ∙ get_or_from_slice_get scenario.writers place count.spec no_writer count.get in
       let index : buffer_of setup place - 1 ≡ count.spec.buffer - 1 = ap (λ (s : WriterSpec). s.buffer - 1) spec_is in
       let number : ℕ = count.spec.buffer - 1 in
-      let counts_is : counts ≡ counts_of (buffer_at buffers number).policy (writer world place).calls
-      (sequence_in (buffer_at buffers number).sequences (sequence_of place)) =
-      count.is ∙ ap (λ (p : ℕ). counts_of (buffer_at buffers number).policy (writer world p).calls
+      let raw : Bool = has_raw (suc place) lines in
+      let policy : FullPolicy = (buffer_at buffers number).policy in
+      let state : Sequence = sequence_in (buffer_at buffers number).sequences (sequence_of place) in
+      let calls : List Call = (writer world place).calls in
+      let counts_is : counts ≡ counts_by raw policy calls state =
+      count.is ∙ ap (λ (p : ℕ). counts_by (has_raw (suc p) lines) policy (writer world p).calls
       (sequence_in (buffer_at buffers number).sequences (sequence_of p))) here in
-      let balanced = subst IsBalanced counts_is
-      (every_report_is_balanced scenario setup world notes played playable.few playable.set_up place counts get) in
-      ap (λ (all : List Buffer). left_in place all (buffer_of setup place - 1) (means.view host.table core.seat).calls) buffers_are
-      ∙ ap (λ (n : ℕ). left_in place buffers n (means.view host.table core.seat).calls) index
-      ∙ ap (λ (view : WriterView). left_in place buffers number view.calls) (sym row)
-      ∙ left_is (buffer_at buffers number).policy (writer world place).calls
-      (sequence_in (buffer_at buffers number).sequences (sequence_of place)) balanced
+      let balanced : raw ≡ false → IsBalanced (counts_of policy calls state) =
+      λ none. subst IsBalanced (counts_is ∙ ap (λ (b : Bool). counts_by b policy calls state) none)
+      (every_report_is_balanced scenario setup world notes played playable.few playable.set_up place counts none get) in
+      let said : slice_index_or marks place false ≡ raw = marked.each place (slice_get_within scenario.writers place count.spec count.get) in
+      ap (λ (b : Bool). packets_now means host place b (means.view host.table core.seat).calls) said
+      ∙ ap (λ (all : List Buffer). either_in place raw all (buffer_of setup place - 1) (means.view host.table core.seat).calls) buffers_are
+      ∙ ap (λ (n : ℕ). either_in place raw buffers n (means.view host.table core.seat).calls) index
+      ∙ ap (λ (view : WriterView). either_in place raw buffers number view.calls) (sym row)
+      ∙ either_is raw policy calls state balanced
       ∙ ap printed (sym counts_is)
 
   -- and so are all of them
   pub sequences_are : (items : List SequenceCounts) → length items ≡ length host.writers.items
       → ((place : ℕ) (core : WriterCore W) → slice_get host.writers.items place ≡ Some core
-      → slice_get items place ≡ Some (packets_now means host place (means.view host.table core.seat).calls))
+      → slice_get items place ≡ Some (packets_now means host place (slice_index_or marks place false) (means.view host.table core.seat).calls))
       → items ≡ map printed (packet_counts scenario (means.setup host.table) world)
   sequences_are items long each =
       let many = is_host.stands.many in
       let writers = ap (λ (specs : List WriterSpec). length specs) (setup_writers scenario setup played.setup_is) in
-      let wide = counts_long (buffers_in scenario setup world) world 0 scenario.writers in
+      let wide = counts_long scenario.lines (buffers_in scenario setup world) world 0 scenario.writers in
       map_each printed (packet_counts scenario setup world) items (omega (arith, long, many, writers, wide))
       (λ place counts d get.
       let inside = slice_get_within (packet_counts scenario setup world) place counts get in
@@ -216,19 +259,19 @@ module _ {T W S : Type 0} (means : Meaning T W S) (laws : AreLaws means) (host :
 
 -- What was counted is what the report says.
 pub counts_all : {T W S : Type 0} (means : Meaning T W S) → AreLaws means → (host : Host T W S) → IsHost means host
-    → (buffers : List BufferCounts) (sequences : List SequenceCounts) (flushes : Flushes) (writers : ℕ)
+    → (marks : List Bool) (buffers : List BufferCounts) (sequences : List SequenceCounts) (flushes : Flushes) (writers : ℕ)
     → writers ≡ length host.writers.items
     → buffers ≡ map answers.counts_of (buffers_now means host)
     → length sequences ≡ length host.writers.items
     → ((place : ℕ) (core : WriterCore W) → slice_get host.writers.items place ≡ Some core
-    → slice_get sequences place ≡ Some (packets_now means host place (means.view host.table core.seat).calls))
-    → ((notes : List FlushNote) (setup : Setup) (view : ServiceView) → IsTally notes writers host.flushes
+    → slice_get sequences place ≡ Some (packets_now means host place (slice_index_or marks place false) (means.view host.table core.seat).calls))
+    → ((notes : List ActNote) (setup : Setup) (view : ServiceView) → IsTally notes writers host.flushes
     → ServiceAgrees setup view host.helper.service
     → IsTally (notes ++ answers_to view writers) writers flushes)
     → vec_len flushes.chunks ≡ length flushes.chunks.items
-    → CountsAll means host buffers sequences flushes
-counts_all means laws host is_host buffers sequences flushes writers many counted_buffers long each rest
-    joined scenario notes world told played playable first tally =
+    → CountsAll means host marks buffers sequences flushes
+counts_all means laws host is_host marks buffers sequences flushes writers many counted_buffers long each rest
+    joined scenario notes world told played playable first tally marked =
     let setup : Setup = means.setup host.table in
     let there : writers ≡ length setup.writers = many ∙ is_host.stands.many in
     let named : length scenario.writers ≡ writers = ap (λ (specs : List WriterSpec). length specs)
@@ -237,18 +280,19 @@ counts_all means laws host is_host buffers sequences flushes writers many counte
     (subst (λ (n : ℕ). IsTally notes n host.flushes) named tally) is_host.stands.served.agrees in
     record {
       buffers_are = counted_buffers ∙ ap (λ (all : List Buffer). map answers.counts_of all)
-          (buffers_are means laws host is_host scenario notes world told played playable first);
-      sequences_are = sequences_are means laws host is_host scenario notes world told played playable first sequences long each;
-      sums_are = flushes_are means laws host is_host scenario notes world told played playable first writers flushes there last joined;
+          (buffers_are means laws host is_host scenario notes world told played playable first marks marked);
+      sequences_are = sequences_are means laws host is_host scenario notes world told played playable first marks marked sequences long each;
+      sums_are = flushes_are means laws host is_host scenario notes world told played playable first marks marked writers flushes there last joined;
     }
 
 -- The report of what was counted is that of the world.
-pub report_is : (scenario : Parts) (setup : Setup) (world : World) (notes : List FlushNote) (buffers : List BufferCounts)
-    (sequences : List SequenceCounts) (flushes : Flushes)
+pub report_is : (scenario : Parts) (setup : Setup) (world : World) (notes : List ActNote) (buffers : List BufferCounts)
+    (sequences : List SequenceCounts) (flushes : Flushes) (raws : List RawLine)
     → IsReportOf scenario setup world notes buffers sequences flushes → flushes.made ≡ vec_len flushes.chunks
-    → report_text buffers sequences flushes.chunks.items ≡ report_of scenario setup world notes
-report_is scenario setup world notes buffers sequences flushes is made =
-    ap (λ all. report_text all sequences flushes.chunks.items) is.buffers_are
-    ∙ ap (λ all. report_text (map answers.counts_of (buffers_in scenario setup world)) all flushes.chunks.items) is.sequences_are
-    ∙ ap (λ sums. report_text (map answers.counts_of (buffers_in scenario setup world))
-    (map printed (packet_counts scenario setup world)) sums) (is.sums_are made)
+    → raws ≡ raw_lines (raw_numbers scenario.lines) (answers_in notes)
+    → report_text buffers sequences flushes.chunks.items ++ raw_text raws ≡ report_of scenario setup world notes
+report_is scenario setup world notes buffers sequences flushes raws is made raws_are =
+    ap (λ (all : List BufferCounts). report_text all sequences flushes.chunks.items ++ raw_text raws) is.buffers_are
+    ∙ ap (λ (all : List SequenceCounts). report_text (map answers.counts_of (buffers_in scenario setup world)) all flushes.chunks.items ++ raw_text raws) is.sequences_are
+    ∙ ap (λ (sums : List ℕ). report_with scenario setup world sums ++ raw_text raws) (is.sums_are made)
+    ∙ ap (λ (rs : List RawLine). report_with scenario setup world (flush_sums notes world.service.taken) ++ raw_text rs) raws_are

@@ -16,7 +16,7 @@ use Rattle.world_model.specs.FirstBuffers.{payload_at, first_buffers}
 use Rattle.service_core.specs.declared.service.ServiceCore.{ServiceCore}
 use Rattle.service_core.specs.Agreement.{ServiceAgrees, KeepsTaking, first_of, spec_value}
 use Rattle.replay_model.specs.Acts.{Act, Ask, Collect, CloseProducer, ReadAll}
-use Rattle.replay_model.specs.Flushes.{FlushNote}
+use Rattle.replay_model.specs.ActNotes.{ActNote}
 use Rattle.replay_model.specs.Schedule.{open_places, open_producers, reads_from, last_acts}
 use Rattle.replay_host.specs.declared.fault.HostFault.{HostFault}
 use Rattle.replay_host.specs.declared.host.Host.{Host}
@@ -83,12 +83,12 @@ ready_as means table cores coming more same ready place core at =
 -- ---- the last flushes
 
 -- where the flags and what is kept of flush requests are as before, the lines that are played stay so
-pub kept_quiet : {T W S : Type 0} (means : Meaning T W S) (scenario : Parts) (before : List NumberedLine) (notes : List FlushNote) (acts : List Act) (old new : Host T W S)
+pub kept_quiet : {T W S : Type 0} (means : Meaning T W S) (scenario : Parts) (before : List NumberedLine) (notes : List ActNote) (acts : List Act) (old new : Host T W S)
     → IsKept means scenario before notes old → IsHost means new → new.open_producers ≡ old.open_producers → new.flushes ≡ old.flushes
     → ((taken : Intake) → HasDone means acts [] old taken new taken) → IsKept means scenario before (notes ++ []) new
 kept_quiet means scenario before notes acts old new kept host opened flushes done =
     kept_still means scenario before notes [] old new kept host (done (untold [])).setup_is (done (untold [])).first opened
-    (subst (λ (ns : List FlushNote). IsTally ns (length scenario.writers) new.flushes) (sym (append-nil notes))
+    (subst (λ (ns : List ActNote). IsTally ns (length scenario.writers) new.flushes) (sym (append-nil notes))
     (subst (λ (f : _). IsTally notes (length scenario.writers) f) (sym flushes) kept.tally))
 
 -- behind the last flushes what is kept is as before

@@ -1,5 +1,5 @@
 -- The clones of a scenario's lines, filled one behind another.
-use Rattle.std.proofs.Common.{◌≡◌, ◌∙◌, ℕ, zero, suc, ◌+◌, ◌-◌, ◌*◌, ◌<◌, ◌≤◌, List, [], ◌∷◌, ◌++◌, length, map, take, drop, get_or, set, refl, sym, ap, subst, arith, append-nil}
+use Rattle.std.proofs.Common.{◌≡◌, ◌∙◌, ℕ, zero, suc, ◌-◌, ◌*◌, ◌<◌, ◌≤◌, List, [], ◌∷◌, ◌++◌, length, map, take, drop, get_or, set, refl, sym, ap, subst, arith}
 use Rattle.std.proofs.lemmas.List.{length-map}
 use Rattle.trace_base.specs.declared.limits.TheConstants.{BYTES_PER_KB}
 use Rattle.scenario_text.specs.declared.scenario.BufferLine.{BufferLine}
@@ -16,11 +16,10 @@ use Rattle.chunk_plain.specs.Setup.{Setup}
 use Rattle.service_core.specs.Agreement.{first_of}
 use Rattle.service_core.specs.Routing.{buffer_at}
 use Rattle.replay_model.specs.Played.{buffers_of}
-use Rattle.replay_model.specs.Schedule.{acts_of}
 use Rattle.replay_host.specs.declared.host.Host.{Host}
 use Rattle.replay_host.specs.Cloning.{FitsClone, HaveCloned, clone_now}
 use Rattle.replay_host.specs.Lines.{IsLinePlayed}
-use Rattle.replay_host.specs.Playing.{IsHost, HasDone}
+use Rattle.replay_host.specs.Playing.{IsHost}
 use Rattle.replay_host.specs.Whole.{Begins, HavePlayedTo}
 use Rattle.replay_host.proofs.CloningLemmas.{cloned_next, fits_clone}
 use Rattle.replay_host.proofs.CountingLemmas.{specs_many}
@@ -84,6 +83,7 @@ no_clone (line.Scrape producer) not = refl
 no_clone (line.Close producer) not = refl
 no_clone (line.Read buffer limit) not = refl
 no_clone line.Request not = refl
+no_clone (line.Raw writer chunk) not = refl
 no_clone (line.CloneBuffer buffer) not = absurd (not buffer refl)
 
 -- the clones of the lines from a place on are those of the line there and of the later ones

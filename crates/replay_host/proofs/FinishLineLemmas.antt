@@ -17,7 +17,7 @@ use Rattle.scenario_text.proofs.AcceptedLemmas.{calls_more}
 use Rattle.chunk_plain.specs.Meaning.{Meaning}
 use Rattle.service_core.specs.Agreement.{spec_at}
 use Rattle.replay_model.specs.Acts.{Act, Answer, asks}
-use Rattle.replay_model.specs.Flushes.{FlushNote, Answered}
+use Rattle.replay_model.specs.ActNotes.{ActNote, Answered}
 use Rattle.replay_model.specs.Schedule.{acts_of, asked_of, answers_late, is_due, is_due_after}
 use Rattle.replay_host.specs.declared.host.Host.{Host}
 use Rattle.replay_host.specs.Answering.{HasAnswered, MayAnswer}
@@ -140,7 +140,7 @@ module _ {T W S : Type 0} (means : Meaning T W S) (moment : Moment) (place : ℕ
     pub finish_waits : nat_lt (slice_index mid.flushes.answered.items place) mid.flushes.made ≡ false → (taken : Intake) → IsLinePlayed means moment old taken mid taken
     finish_waits none taken = record {
       later = [];
-      at = subst (λ (ns : List FlushNote). IsAt means moment.scenario behind moment.rest ns mid) (sym (append-nil moment.notes)) (record {
+      at = subst (λ (ns : List ActNote). IsAt means moment.scenario behind moment.rest ns mid) (sym (append-nil moment.notes)) (record {
         going = finish_going;
         due = λ other inside opened. elim (cases_eq other place) [
           | inl same ↦ subst (λ (n : ℕ). IsDueAt moment.scenario behind n mid) (sym same) (due_own mid none)

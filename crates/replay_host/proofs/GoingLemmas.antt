@@ -1,6 +1,6 @@
 -- What was done between two lines, one act behind another.
-use Rattle.std.proofs.Common.{◌≡◌, ◌∙◌, ℕ, suc, ◌+◌, ◌-◌, ◌<◌, false, Some, List, [], ◌++◌, length, vec_len, get_or, refl, sym, ap, subst, arith, append_assoc, append-nil}
-use Rattle.std.specs.Prelude.{slice_get, slice_index_or}
+use Rattle.std.proofs.Common.{◌≡◌, ◌∙◌, ℕ, suc, ◌+◌, ◌-◌, ◌<◌, ◌≤◌, false, Some, List, [], ◌++◌, length, vec_len, get_or, refl, sym, ap, subst, arith, append_assoc, append-nil}
+use Rattle.std.specs.Prelude.{slice_get, slice_index_or, vec_capacity}
 use Rattle.std.proofs.lemmas.Option.{slice_get-get_or, slice_get_within, same_Some}
 use Rattle.byte_io.specs.Bytes.{Intake}
 use Rattle.trace_model.specs.Buffers.{Buffer}
@@ -16,13 +16,15 @@ use Rattle.trace_writer.specs.declared.writer.WriterCore.{WriterCore}
 use Rattle.service_core.specs.Agreement.{first_of}
 use Rattle.world_model.specs.FirstBuffers.{payload_at}
 use Rattle.replay_model.specs.Acts.{Act}
-use Rattle.replay_model.specs.Flushes.{FlushNote, requests_in}
+use Rattle.replay_model.specs.ActNotes.{ActNote}
+use Rattle.replay_model.specs.Flushes.{requests_in}
 use Rattle.replay_model.specs.Played.{IsSetupOf, buffers_of}
 use Rattle.replay_host.specs.declared.host.Host.{Host}
 use Rattle.replay_host.specs.Answering.{KeepsGoing, GoesOn}
 use Rattle.replay_host.specs.Asking.{IsReadyFor}
 use Rattle.replay_host.specs.Lines.{MOST_REQUESTS, IsKept, IsGoing}
 use Rattle.replay_host.specs.Playing.{IsHost, HasDone, HasPlayed, IsTraceOf, LeavesWriters}
+use Rattle.replay_host.specs.Raws.{raws_in}
 use Rattle.replay_host.specs.Tally.{IsTally}
 use Rattle.replay_host.proofs.HostLemmas.{played_none, played_both}
 use Rattle.replay_host.proofs.ReadyLemmas.{ready_still}
@@ -43,7 +45,7 @@ first_is : {T W S : Type 0} (means : Meaning T W S) (old mid : Host T W S) → m
     → first_of (means.setup mid.table) mid.helper.service ≡ first_of (means.setup old.table) old.helper.service
 first_is means old mid same first = ap (λ (s : Setup). first_of s mid.helper.service) same ∙ first
 
-pub done_both : {T W S : Type 0} (means : Meaning T W S) (acts others : List Act) (notes more : List FlushNote) (old mid new : Host T W S) (taken between left : Intake)
+pub done_both : {T W S : Type 0} (means : Meaning T W S) (acts others : List Act) (notes more : List ActNote) (old mid new : Host T W S) (taken between left : Intake)
     → HasDone means acts notes old taken mid between → HasDone means others more mid between new left → HasDone means (acts ++ others) (notes ++ more) old taken new left
 done_both means acts others notes more old mid new taken between left one two =
     let same = one.setup_is in
@@ -79,6 +81,7 @@ keeps_going_none {T} {W} {S} means host = record {
   ready = λ coming ready. ready;
   made = refl;
   room = refl;
+  told = refl;
   state = refl;
   requests = refl;
 }
@@ -95,6 +98,7 @@ keeps_going_both {T} {W} {S} means old mid new one two = record {
   ready = λ coming ready. two.ready coming (one.ready coming ready);
   made = two.made ∙ one.made;
   room = two.room ∙ one.room;
+  told = two.told ∙ one.told;
   state = two.state ∙ one.state;
   requests = two.requests ∙ one.requests;
 }
@@ -119,12 +123,13 @@ keeps_served {T} {W} {S} means old new leaves same first opened session = record
       (ap (λ (v : WriterView). v.calls) (leaves.views place core here)) (ready place core here));
   made = ap (λ (f : _). f.made) leaves.flushes;
   room = ap (λ (f : _). vec_len f.chunks) leaves.flushes;
+  told = ap (λ (f : _). f.answers) leaves.flushes;
   state = ap (λ (s : SessionValue). s.state) session;
   requests = ap (λ (s : SessionValue). s.requests) session;
 }
 
 -- Behind the same lines: what is kept of the set-up and of flush requests is right.
-pub kept_still : {T W S : Type 0} (means : Meaning T W S) (scenario : Parts) (before : List NumberedLine) (notes later : List FlushNote) (old new : Host T W S)
+pub kept_still : {T W S : Type 0} (means : Meaning T W S) (scenario : Parts) (before : List NumberedLine) (notes later : List ActNote) (old new : Host T W S)
     → IsKept means scenario before notes old → IsHost means new → means.setup new.table ≡ means.setup old.table
     → first_of (means.setup old.table) new.helper.service ≡ first_of (means.setup old.table) old.helper.service
     → new.open_producers ≡ old.open_producers → IsTally (notes ++ later) (length scenario.writers) new.flushes → IsKept means scenario before (notes ++ later) new
@@ -137,7 +142,7 @@ kept_still means scenario before notes later old new kept host same first opened
   tally = tally;
 }
 
-pub going_still : {T W S : Type 0} (means : Meaning T W S) (scenario : Parts) (before rest : List NumberedLine) (notes later : List FlushNote) (old new : Host T W S)
+pub going_still : {T W S : Type 0} (means : Meaning T W S) (scenario : Parts) (before rest : List NumberedLine) (notes later : List ActNote) (old new : Host T W S)
     → IsGoing means scenario before rest notes old → IsHost means new → KeepsGoing means old new
     → IsTally (notes ++ later) (length scenario.writers) new.flushes → IsGoing means scenario before rest (notes ++ later) new
 going_still means scenario before rest notes later old new going host keeps tally = record {
@@ -148,6 +153,7 @@ going_still means scenario before rest notes later old new going host keeps tall
   ready = keeps.ready _ going.ready;
   room = ap (λ (n : ℕ). n + requests_in rest) keeps.made ∙ going.room ∙ sym keeps.room;
   few = subst (λ (n : ℕ). n < MOST_REQUESTS) (sym keeps.room) going.few;
+  told_room = subst (λ (v : _). vec_len v + raws_in rest ≤ vec_capacity v) (sym keeps.told) going.told_room;
   started = keeps.state ∙ going.started;
   requests = keeps.requests ∙ going.requests ∙ sym keeps.made;
 }
@@ -158,22 +164,22 @@ pub goes_none : {T W S : Type 0} (means : Meaning T W S) (host : Host T W S) →
 goes_none means host is = record {
   host = is;
   keeps = keeps_going_none means host;
-  tally = λ notes writers tally. subst (λ (ns : List FlushNote). IsTally ns writers host.flushes) (sym (append-nil notes)) tally;
+  tally = λ notes writers tally. subst (λ (ns : List ActNote). IsTally ns writers host.flushes) (sym (append-nil notes)) tally;
   done = λ taken. done_none means host taken;
 }
 
-pub goes_both : {T W S : Type 0} (means : Meaning T W S) (acts others : List Act) (later more : List FlushNote) (old mid new : Host T W S)
+pub goes_both : {T W S : Type 0} (means : Meaning T W S) (acts others : List Act) (later more : List ActNote) (old mid new : Host T W S)
     → GoesOn means acts later old mid → GoesOn means others more mid new → GoesOn means (acts ++ others) (later ++ more) old new
 goes_both means acts others later more old mid new one two = record {
   host = two.host;
   keeps = keeps_going_both means old mid new one.keeps two.keeps;
   tally = λ notes writers tally.
-      subst (λ (ns : List FlushNote). IsTally ns writers new.flushes) (append_assoc notes later more) (two.tally (notes ++ later) writers (one.tally notes writers tally));
+      subst (λ (ns : List ActNote). IsTally ns writers new.flushes) (append_assoc notes later more) (two.tally (notes ++ later) writers (one.tally notes writers tally));
   done = λ taken. done_both means acts others later more old mid new taken taken taken (one.done taken) (two.done taken);
 }
 
 -- where it goes on, the lines that are played stay so
-pub goes_still : {T W S : Type 0} (means : Meaning T W S) (scenario : Parts) (before rest : List NumberedLine) (notes later : List FlushNote) (acts : List Act) (old new : Host T W S)
+pub goes_still : {T W S : Type 0} (means : Meaning T W S) (scenario : Parts) (before rest : List NumberedLine) (notes later : List ActNote) (acts : List Act) (old new : Host T W S)
     → IsGoing means scenario before rest notes old → GoesOn means acts later old new → IsGoing means scenario before rest (notes ++ later) new
 goes_still means scenario before rest notes later acts old new going goes =
     going_still means scenario before rest notes later old new going goes.host goes.keeps (goes.tally notes (length scenario.writers) going.kept.tally)

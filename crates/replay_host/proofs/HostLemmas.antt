@@ -11,7 +11,7 @@ use Rattle.chunk_plain.specs.Setup.{Setup, HasProducer, producer_of, ProducersAr
 use Rattle.chunk_plain.specs.Views.{WriterView}
 use Rattle.trace_writer.specs.declared.writer.WriterCore.{WriterCore}
 use Rattle.replay_model.specs.Acts.{Act, Ask, asks}
-use Rattle.replay_model.specs.Flushes.{FlushNote}
+use Rattle.replay_model.specs.ActNotes.{ActNote}
 use Rattle.replay_model.specs.Plays.{Plays}
 use Rattle.replay_model.proofs.PlayLemmas.{plays_one, plays_both}
 use Rattle.replay_host.specs.declared.host.Host.{Host}
@@ -28,7 +28,7 @@ use Rattle.replay_host.proofs.RowLemmas.{AreLaws}
 pub played_none : {T W S : Type 0} (means : Meaning T W S) (buffers : List Buffer) (table : T) → HasPlayed means buffers [] table table []
 played_none means buffers table was told = (was, told, (refl, refl))
 
-pub played_both : {T W S : Type 0} (means : Meaning T W S) (buffers : List Buffer) (acts others : List Act) (old mid new : T) (notes more : List FlushNote)
+pub played_both : {T W S : Type 0} (means : Meaning T W S) (buffers : List Buffer) (acts others : List Act) (old mid new : T) (notes more : List ActNote)
     → means.setup mid ≡ means.setup old → HasPlayed means buffers acts old mid notes → HasPlayed means buffers others mid new more
     → HasPlayed means buffers (acts ++ others) old new (notes ++ more)
 played_both means buffers acts others old mid new notes more same first second was told =

@@ -7,9 +7,10 @@ use Rattle.scenario_text.specs.declared.scenario.LineKind.TheVariants as line
 use Rattle.scenario_text.specs.declared.scenario.NumberedLine.{NumberedLine}
 use Rattle.scenario_text.specs.Scenario.{Parts}
 use Rattle.scenario_text.specs.Accepted.{node_call, if_own, line_calls, closes}
-use Rattle.scenario_text.specs.Reach.{IsInReach, NamesWriter, NamesProducer}
+use Rattle.scenario_text.specs.RawChunks.{AskedChunk}
+use Rattle.scenario_text.specs.Reach.{CommitsChunk, IsInReach, NamesWriter, NamesProducer}
 use Rattle.chunk_plain.specs.Meaning.{Meaning}
-use Rattle.replay_model.specs.Acts.{Act, Collect, Scrape, ReadAll, asks}
+use Rattle.replay_model.specs.Acts.{Act, Collect, Scrape, ReadAll, CommitRaw, asks}
 use Rattle.replay_model.specs.Schedule.{acts_of, asked_of}
 use Rattle.replay_host.specs.declared.host.Host.{Host}
 use Rattle.replay_host.specs.Asks.{AsksFor, AsksNothing, LeavesDue, ComesAsking}
@@ -143,6 +144,10 @@ clone_asks : (buffer : ℕ) → AsksNothing (line.CloneBuffer buffer)
 unfolding line_calls
 clone_asks buffer = record { none = λ number. refl; no_request = refl; due = λ number due. refl }
 
+raw_asks : (writer : ℕ) (chunk : AskedChunk) → AsksNothing (line.Raw writer chunk)
+unfolding line_calls
+raw_asks writer chunk = record { none = λ number. refl; no_request = refl; due = λ number due. refl }
+
 module _ {T W S : Type 0} (means : Meaning T W S) (moment : Moment) (host : Host T W S) where
   comes_serving : (kind : LineKind) (acts : List Act) → moment.line.what ≡ kind → ComesNext means moment host → AsksNothing kind
       → acts_of moment.scenario moment.before kind ≡ acts → ((producer : ℕ) → closes producer kind ≡ false) → ComesServing means moment acts host
@@ -180,3 +185,12 @@ module _ {T W S : Type 0} (means : Meaning T W S) (moment : Moment) (host : Host
   unfolding closes
   comes_clone buffer what next =
       comes_serving (line.CloneBuffer buffer) [] what next (clone_asks buffer) refl (λ other. refl)
+
+  pub comes_raw : (place : ℕ) (chunk : AskedChunk) → moment.line.what ≡ line.Raw (suc place) chunk → ComesNext means moment host
+      → ComesServing means moment (CommitRaw place chunk ∷ []) host
+      × CommitsChunk moment.scenario.buffers moment.scenario.producers moment.scenario.writers moment.before (suc place) chunk
+  unfolding closes
+  comes_raw place chunk what next = (
+    comes_serving (line.Raw (suc place) chunk) (CommitRaw place chunk ∷ []) what next (raw_asks (suc place) chunk) refl (λ other. refl),
+    subst (λ (k : LineKind). IsInReach moment.scenario.buffers moment.scenario.producers moment.scenario.writers moment.before k) what next.reach,
+  )

@@ -8,6 +8,7 @@ pub mod CloneMadeLemmas
 pub mod ClosedLemmas
 pub mod ClosingLemmas
 pub mod CollectedLemmas
+pub mod CommitLemmas
 pub mod CountingLemmas
 pub mod DueLemmas
 pub mod EndingLemmas
@@ -26,6 +27,8 @@ pub mod MomentLemmas
 pub mod OpenLemmas
 pub mod PlainMadeLemmas
 pub mod PlayingLemmas
+pub mod RawLinesLemmas
+pub mod RawPlayedLemmas
 pub mod ReadLemmas
 pub mod ReadyLemmas
 pub mod ReplayingLemmas
@@ -41,7 +44,6 @@ pub mod SetUpLemmas
 pub mod StallLemmas
 pub mod StopLemmas
 pub mod StuckLemmas
-pub mod TakenLemmas
 pub mod TallyLemmas
 pub mod WorkLemmas
 pub mod WroteLemmas

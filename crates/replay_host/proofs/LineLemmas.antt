@@ -1,8 +1,8 @@
 -- From one line to the next: what a line changes of what is kept between two lines.
-use Rattle.std.proofs.Common.{◌≡◌, ◌∙◌, ℕ, suc, ◌+◌, ◌<◌, ◌==◌, ◌||◌, Bool, true, false, not, cond, Some, List, [], ◌∷◌, ◌++◌, length, vec_len, refl, sym, ap, subst, arith, append_assoc, append-nil, inl, inr}
+use Rattle.std.proofs.Common.{◌≡◌, ◌∙◌, ℕ, suc, ◌+◌, ◌<◌, ◌≤◌, ◌==◌, ◌||◌, Bool, true, false, not, cond, Some, List, [], ◌∷◌, ◌++◌, length, vec_len, refl, sym, ap, subst, arith, append_assoc, append-nil, inl, inr}
 use Rattle.std.proofs.lemmas.Grind.{fold-append}
 use Rattle.std.proofs.lemmas.List.Folds.{list_any-append}
-use Rattle.std.specs.Prelude.{slice_get}
+use Rattle.std.specs.Prelude.{slice_get, vec_capacity}
 use Rattle.std.proofs.lemmas.Bool.{eq-eqb, eqb-true, cases_eq}
 use Rattle.std.proofs.Math.Bool.{or-false}
 use Rattle.trace_model.specs.Calls.{Call}
@@ -16,14 +16,17 @@ use Rattle.trace_writer.specs.declared.writer.WriterCore.{WriterCore}
 use Rattle.world_model.specs.FirstBuffers.{payload_at}
 use Rattle.service_core.proofs.AgreeLemmas.{first_stays}
 use Rattle.session_core.specs.Sessions.{SessionValue}
-use Rattle.replay_model.specs.Flushes.{FlushNote, requests_in}
+use Rattle.replay_model.specs.ActNotes.{ActNote}
+use Rattle.replay_model.specs.Flushes.{requests_in}
 use Rattle.replay_model.specs.Schedule.{is_due, is_due_after}
 use Rattle.replay_host.specs.declared.host.Host.{Host}
 use Rattle.replay_host.specs.Asking.{IsReadyFor, AreReady}
 use Rattle.replay_host.specs.Asks.{AsksFor, AsksNothing}
 use Rattle.replay_host.specs.Lines.{MOST_REQUESTS, IsKept, IsGoing, coming_at, last_flush, is_open_at}
 use Rattle.replay_host.specs.Playing.{IsHost, HasAsked, asked_all}
+use Rattle.replay_host.specs.Raws.{raws_in}
 use Rattle.replay_host.specs.Tally.{IsTally}
+use Rattle.replay_host.proofs.RawLinesLemmas.{raws_fall}
 use Rattle.replay_host.proofs.GoingLemmas.{kept_still, writer_was}
 
 -- ---- functions of the lines
@@ -83,7 +86,7 @@ ready_nothing means table cores scenario line rest none ready other core at =
 -- ---- a line that asks a writer for calls
 
 -- behind a line that closes no producer the same producers count as open
-pub kept_more : {T W S : Type 0} (means : Meaning T W S) (scenario : Parts) (before : List NumberedLine) (line : NumberedLine) (notes : List FlushNote) (host : Host T W S)
+pub kept_more : {T W S : Type 0} (means : Meaning T W S) (scenario : Parts) (before : List NumberedLine) (line : NumberedLine) (notes : List ActNote) (host : Host T W S)
     → ((producer : ℕ) → closes producer line.what ≡ false) → IsKept means scenario before notes host → IsKept means scenario (before ++ line ∷ []) notes host
 kept_more means scenario before line notes host none kept = record {
   is_host = kept.is_host;
@@ -95,18 +98,18 @@ kept_more means scenario before line notes host none kept = record {
 }
 
 pub going_asked : {T W S : Type 0} (means : Meaning T W S) (scenario : Parts) (before : List NumberedLine) (line : NumberedLine) (rest : List NumberedLine)
-    (notes : List FlushNote) (place : ℕ) (calls : List Call) (old new : Host T W S) → AsksFor line.what place calls
+    (notes : List ActNote) (place : ℕ) (calls : List Call) (old new : Host T W S) → AsksFor line.what place calls
     → IsGoing means scenario before (line ∷ rest) notes old → IsHost means new → HasAsked means place calls old new
     → IsGoing means scenario (before ++ line ∷ []) rest notes new
 going_asked {T} {W} {S} means scenario before line rest notes place calls old new asks going host asked =
     let first = first_stays (means.setup old.table) old.helper.service new.helper.service asked.service.keeps.fields in
     let tally : IsTally (notes ++ []) (length scenario.writers) new.flushes =
     subst (λ (f : _). IsTally (notes ++ []) (length scenario.writers) f) (sym asked.books.flushes)
-    (subst (λ (ns : List FlushNote). IsTally ns (length scenario.writers) old.flushes) (sym (append-nil notes)) going.kept.tally) in
+    (subst (λ (ns : List ActNote). IsTally ns (length scenario.writers) old.flushes) (sym (append-nil notes)) going.kept.tally) in
     let kept = kept_still means scenario before notes [] old new going.kept host asked.service.setup_is first asked.books.opened tally in
     let session : new.helper.service.session ≡ old.helper.service.session = asked.service.keeps.fields.session in
     record {
-      kept = kept_more means scenario before line notes new asks.closes_none (subst (λ (ns : List FlushNote). IsKept means scenario before ns new) (append-nil notes) kept);
+      kept = kept_more means scenario before line notes new asks.closes_none (subst (λ (ns : List ActNote). IsKept means scenario before ns new) (append-nil notes) kept);
       wrote = λ other core at.
           let was = writer_was old.writers.items new.writers.items other core asked.many at in
           subst (λ (cs : List Call). Loses cs (means.view new.table core.seat).calls) (sym (calls_more (suc other) before line))
@@ -116,6 +119,8 @@ going_asked {T} {W} {S} means scenario before line rest notes place calls old ne
           ∙ (let none = asks.no_request in let was = going.room in let is : old.flushes.made + requests_in rest ≡ vec_len old.flushes.chunks = omega (arith, none, was) in is)
           ∙ ap (λ (f : _). vec_len f.chunks) (sym asked.books.flushes);
       few = subst (λ (f : _). vec_len f.chunks < MOST_REQUESTS) (sym asked.books.flushes) going.few;
+      told_room = subst (λ (f : _). vec_len f.answers + raws_in rest ≤ vec_capacity f.answers) (sym asked.books.flushes)
+          (let fall = raws_fall line rest in let was = going.told_room in omega (arith, fall, was));
       started = ap (λ (s : SessionValue). s.state) session ∙ going.started;
       requests = ap (λ (s : SessionValue). s.requests) session ∙ going.requests ∙ ap (λ (f : _). f.made) (sym asked.books.flushes);
     }
@@ -139,7 +144,7 @@ going_asked {T} {W} {S} means scenario before line rest notes place calls old ne
 -- ---- a line that asks none, and is no request
 
 pub going_nothing : {T W S : Type 0} (means : Meaning T W S) (scenario : Parts) (before : List NumberedLine) (line : NumberedLine) (rest : List NumberedLine)
-    (notes : List FlushNote) (host : Host T W S) → AsksNothing line.what → IsKept means scenario (before ++ line ∷ []) notes host
+    (notes : List ActNote) (host : Host T W S) → AsksNothing line.what → IsKept means scenario (before ++ line ∷ []) notes host
     → IsGoing means scenario before (line ∷ rest) notes host → IsGoing means scenario (before ++ line ∷ []) rest notes host
 going_nothing means scenario before line rest notes host nothing kept going = record {
   kept = kept;
@@ -150,6 +155,7 @@ going_nothing means scenario before line rest notes host nothing kept going = re
   ready = ready_nothing means host.table host.writers.items scenario line rest nothing.none going.ready;
   room = (let none = nothing.no_request in let was = going.room in omega (arith, none, was));
   few = going.few;
+  told_room = (let fall = raws_fall line rest in let was = going.told_room in omega (arith, fall, was));
   started = going.started;
   requests = going.requests;
 }

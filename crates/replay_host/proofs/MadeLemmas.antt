@@ -94,6 +94,7 @@ kind_few (line.Close producer) = omega arith
 kind_few (line.Read buffer limit) = omega arith
 kind_few line.Request = omega arith
 kind_few (line.CloneBuffer buffer) = omega arith
+kind_few (line.Raw writer chunk) = omega arith
 
 -- there are no more requests than lines
 pub requests_few : (lines : List NumberedLine) → requests_in lines ≤ length lines

@@ -24,7 +24,7 @@ use Rattle.world_model.specs.FirstBuffers.{payload_at}
 use Rattle.service_core.specs.Agreement.{spec_at}
 use Rattle.service_core.proofs.MakeLemmas.{ranges_long}
 use Rattle.replay_model.specs.Acts.{Act, asks}
-use Rattle.replay_model.specs.Flushes.{FlushNote}
+use Rattle.replay_model.specs.ActNotes.{ActNote}
 use Rattle.replay_model.specs.Played.{IsSetupOf, IsSpecOf}
 use Rattle.replay_model.specs.Schedule.{is_due, is_due_after}
 use Rattle.replay_model.proofs.PlayedLemmas.{setup_writers}
@@ -46,7 +46,7 @@ ranges_many scenario setup is =
 
 -- ---- a writer that a line names
 
-module _ {T W S : Type 0} (means : Meaning T W S) (scenario : Parts) (before : List NumberedLine) (notes : List FlushNote) (host : Host T W S) (kept : IsKept means scenario before notes host) where
+module _ {T W S : Type 0} (means : Meaning T W S) (scenario : Parts) (before : List NumberedLine) (notes : List ActNote) (host : Host T W S) (kept : IsKept means scenario before notes host) where
   abbrev pub setup : Setup
   setup = means.setup host.table
 
@@ -109,7 +109,7 @@ core_there means host place is below = some_there host.writers.items place (let 
 
 -- the calls of the line that comes are accepted behind those that the lines before have asked
 pub calls_accepted : {T W S : Type 0} (means : Meaning T W S) (scenario : Parts) (before : List NumberedLine) (line : NumberedLine) (rest : List NumberedLine)
-    (notes : List FlushNote) (host : Host T W S) (place : ℕ) (calls : List Call) → IsGoing means scenario before (line ∷ rest) notes host → AsksFor line.what place calls
+    (notes : List ActNote) (host : Host T W S) (place : ℕ) (calls : List Call) → IsGoing means scenario before (line ∷ rest) notes host → AsksFor line.what place calls
     → place < length scenario.writers → AreAccepted (account_of (calls_asked (suc place) before)) calls
 calls_accepted means scenario before line rest notes host place calls going asks below =
     let core = core_there means host place going.kept.is_host (place_inside means scenario before notes host going.kept place below) in
@@ -158,7 +158,7 @@ asked_played means moment place calls old new taken comes host asked =
     let accepted = calls_accepted means moment.scenario before moment.line moment.rest moment.notes old place calls going comes.wants below in
     record {
       later = [];
-      at = subst (λ (ns : List FlushNote). IsAt means moment.scenario (before ++ moment.line ∷ []) moment.rest ns new) (sym (append-nil moment.notes))
+      at = subst (λ (ns : List ActNote). IsAt means moment.scenario (before ++ moment.line ∷ []) moment.rest ns new) (sym (append-nil moment.notes))
           (record {
             going = going_asked means moment.scenario before moment.line moment.rest moment.notes place calls old new comes.wants going host asked;
             due = λ other inside opened.

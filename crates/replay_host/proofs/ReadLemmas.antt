@@ -15,9 +15,8 @@ use Rattle.chunk_plain.specs.Setup.{Setup}
 use Rattle.chunk_plain.specs.Steps.{serviced}
 use Rattle.chunk_plain.specs.Views.{Noted, ServiceView}
 use Rattle.chunk_plain.specs.World.{World}
-use Rattle.service_core.specs.declared.service.ServiceCore.{ServiceCore}
 use Rattle.service_core.specs.Agreement.{AreKnownNotes, KeepsRest, first_of}
-use Rattle.service_core.specs.Reading.{FailsAmong, NotesReads, ReadsAll, noted_read, reads_in, sequences_to}
+use Rattle.service_core.specs.Reading.{FailsAmong, ReadsAll, noted_read, reads_in, sequences_to}
 use Rattle.service_core.specs.Routing.{buffer_at}
 use Rattle.service_core.specs.Taking.{noted_more}
 use Rattle.service_core.proofs.AgreeLemmas.{first_stays}
@@ -61,11 +60,6 @@ reads_records setup first number limit view known =
     (reads_happen more limit (buffer_at bs (number - 1)) (sequences_to number 0 setup.writers))
 
 -- ---- a read that is done
-
--- no image comes by a commit in it
-pub reads_own : {S : Type 0} (setup : Setup) (core : ServiceCore S) (events : List Event) (old new : ServiceView)
-    → NotesReads setup core events old new → new.commits ≡ old.commits
-reads_own setup core events old new notes = ap (λ (v : ServiceView). v.commits) notes.view
 
 pub read_done : {T W S : Type 0} (means : Meaning T W S) → AreLaws means → (number limit delivered : ℕ) (old new : Host T W S)
     (taken left : Intake) → IsServed means old.table old.helper.service

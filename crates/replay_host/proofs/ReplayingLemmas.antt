@@ -1,5 +1,5 @@
 -- What was played of a scenario, from its first world on, is its replay; or it stopped at an act.
-use Rattle.std.proofs.Common.{◌≡◌, ◌∙◌, ℕ, ◌-◌, ◌≤◌, vec_len, Some, List, [], ◌∷◌, ◌++◌, length, map, refl, sym, ap, subst, append_assoc, append-nil, arith}
+use Rattle.std.proofs.Common.{◌≡◌, ◌∙◌, ℕ, ◌-◌, ◌≤◌, vec_len, Bool, Some, List, [], ◌∷◌, ◌++◌, length, map, refl, sym, ap, subst, append_assoc, append-nil, arith}
 use Rattle.std.specs.List.{flat_map}
 use Rattle.std.proofs.Math.Logic.{∥∥₁_map}
 use Rattle.std.proofs.lemmas.Option.{same_Some}
@@ -7,7 +7,7 @@ use Rattle.byte_io.specs.Bytes.{Intake, after_told}
 use Rattle.trace_base.specs.declared.limits.TheConstants.{MAX_BUFFERS}
 use Rattle.trace_base.specs.declared.policy.WriterSpec.{WriterSpec}
 use Rattle.trace_model.specs.Buffers.{Buffer}
-use Rattle.trace_model.specs.Delivery.{Delivered, IsFaithful, trace_of}
+use Rattle.trace_model.specs.Delivery.{Delivered, IsFaithfulOf, trace_of}
 use Rattle.trace_model.specs.History.{buffers_after, records_after}
 use Rattle.trace_buffer.specs.declared.answers.BufferCounts.{BufferCounts}
 use Rattle.scenario_text.specs.declared.scenario.NumberedLine.{NumberedLine}
@@ -15,6 +15,7 @@ use Rattle.scenario_text.specs.Clones.{clones_in}
 use Rattle.scenario_text.specs.declared.scenario.Scenario.{Scenario}
 use Rattle.scenario_text.specs.Scenario.{Parts, IsScenario, parts_of}
 use Rattle.scenario_text.specs.Emissions.{emitted_in}
+use Rattle.scenario_text.specs.Raws.{HasNoRaw, raw_numbers}
 use Rattle.scenario_text.proofs.AcceptedLemmas.{scenario_is_accepted}
 use Rattle.scenario_text.proofs.LimitLemmas.{scenario_is_set_up}
 use Rattle.scenario_text.proofs.ReachLemmas.{scenario_is_in_reach}
@@ -35,14 +36,18 @@ use Rattle.service_core.specs.Reading.{reads_in, noted_read}
 use Rattle.service_core.specs.Taking.{noted_more}
 use Rattle.loss_report.specs.declared.counts.Done.{Done}
 use Rattle.loss_report.specs.declared.counts.SequenceCounts.{SequenceCounts}
+use Rattle.loss_report.specs.declared.raws.RawAnswer.{RawAnswer}
+use Rattle.loss_report.specs.declared.raws.RawLine.{RawLine}
+use Rattle.loss_report.specs.Raws.{raw_text}
 use Rattle.loss_report.specs.Report.{report_text}
-use Rattle.replay_model.specs.Acts.{Act, Ask, Request, Answer, Collect, Scrape, CloseProducer, ReadAll}
+use Rattle.replay_model.specs.Acts.{Act, Ask, Request, Answer, Collect, Scrape, CloseProducer, ReadAll, CommitRaw}
 use Rattle.replay_model.specs.Clones.{AreMadeFor, MakeClones, ReplaysCloning}
 use Rattle.replay_model.specs.Does.{Reads}
 use Rattle.replay_model.specs.Enough.{IsPlayable}
-use Rattle.replay_model.specs.Flushes.{FlushNote}
+use Rattle.replay_model.specs.ActNotes.{ActNote, answers_in}
 use Rattle.replay_model.specs.Played.{IsSetupOf, IsPlayed, buffers_of, records_in, Replays}
 use Rattle.replay_model.specs.Plays.{Plays}
+use Rattle.replay_model.specs.Raws.{raw_lines}
 use Rattle.replay_model.specs.Schedule.{acts_from, last_acts, schedule_of}
 use Rattle.replay_model.proofs.FrontLemmas.{every_front_is_faithful}
 use Rattle.replay_model.proofs.PlayLemmas.{plays_one, plays_both, plays_keep}
@@ -58,6 +63,7 @@ use Rattle.replay_host.specs.Counting.{CountsAll}
 use Rattle.replay_host.specs.Ending.{IsOver, HasEnded}
 use Rattle.replay_host.specs.Making.{IsMade}
 use Rattle.replay_host.specs.Playing.{IsHost, HasDone}
+use Rattle.replay_host.specs.Raws.{AreMarked}
 use Rattle.replay_host.specs.Replaying.{HasStopped, EndsEarly}
 use Rattle.replay_host.specs.Stopping.{Halts, StopsAt, StopsIn}
 use Rattle.replay_host.specs.Tally.{IsTally}
@@ -80,6 +86,7 @@ has_memory setup buffers (Collect producer) world records halts = halts
 has_memory setup buffers (Scrape producer) world records halts = halts
 has_memory setup buffers (CloseProducer producer) world records halts = halts
 has_memory setup buffers (ReadAll number limit) world records halts = halts
+has_memory setup buffers (CommitRaw place chunk) world records halts = halts
 
 -- acts that stopped end a replay early
 ends_early : (scenario : Parts) (fault : HostFault) (old new : Intake) → HasStopped scenario fault old new
@@ -92,12 +99,12 @@ ends_early scenario (Stalled writer) old new stopped = stopped
 -- ---- what was written up to a stop
 
 module _ (scenario : Parts) (setup : Setup) (setup_is : IsSetupOf scenario setup) (playable : IsPlayable scenario) (done more : List Act)
-    (world : World) (notes : List FlushNote) (plays : Plays setup (buffers_of scenario setup) done (first_world setup) world notes) where
+    (world : World) (notes : List ActNote) (plays : Plays setup (buffers_of scenario setup) done (first_world setup) world notes) where
   -- the acts before a read, and the read as if it were done whole
   read_faithful : (number limit : ℕ) (last : World) → schedule_of scenario ≡ done ++ ReadAll number limit ∷ more
-      → Reads setup (buffers_of scenario setup) number limit world last → IsFaithful (emitted_in scenario) (records_in scenario setup last)
+      → Reads setup (buffers_of scenario setup) number limit world last → IsFaithfulOf (HasNoRaw scenario.lines) (emitted_in scenario) (records_in scenario setup last)
   read_faithful number limit last cut reads =
-      subst (λ (view : ServiceView). IsFaithful (emitted_in scenario) (records_in scenario setup (serviced world view))) (sym reads.notes)
+      subst (λ (view : ServiceView). IsFaithfulOf (HasNoRaw scenario.lines) (emitted_in scenario) (records_in scenario setup (serviced world view))) (sym reads.notes)
       (every_front_is_faithful scenario setup (done ++ ReadAll number limit ∷ []) more whole (notes ++ []) setup_is playable
       (cut ∙ sym (append_assoc done (ReadAll number limit ∷ []) more))
       (plays_both setup (buffers_of scenario setup) done (ReadAll number limit ∷ []) (first_world setup) world whole notes [] plays
@@ -116,12 +123,12 @@ module _ (scenario : Parts) (setup : Setup) (setup_is : IsSetupOf scenario setup
 
   -- so what is written up to a halt is faithful
   halt_faithful : (act : Act) (fault : HostFault) (records : List Delivered) → schedule_of scenario ≡ done ++ act ∷ more
-      → Halts setup (buffers_of scenario setup) act world fault records → IsFaithful (emitted_in scenario) records
+      → Halts setup (buffers_of scenario setup) act world fault records → IsFaithfulOf (HasNoRaw scenario.lines) (emitted_in scenario) records
   halt_faithful (Ask place call) (Stalled writer) records cut halts =
-      subst (IsFaithful (emitted_in scenario)) (sym halts.4)
+      subst (IsFaithfulOf (HasNoRaw scenario.lines) (emitted_in scenario)) (sym halts.4)
       (every_front_is_faithful scenario setup done (Ask place call ∷ more) world notes setup_is playable cut plays)
   halt_faithful (ReadAll number limit) WriteFault records cut halts =
-      subst (IsFaithful (emitted_in scenario)) (sym halts.2) (read_faithful number limit halts.0 cut halts.1)
+      subst (IsFaithfulOf (HasNoRaw scenario.lines) (emitted_in scenario)) (sym halts.2) (read_faithful number limit halts.0 cut halts.1)
   halt_faithful (Ask place call) WriteFault records cut halts = absurd halts
   halt_faithful (Ask place call) OutOfMemory records cut halts = absurd halts
   halt_faithful (ReadAll number limit) OutOfMemory records cut halts = absurd halts
@@ -131,6 +138,7 @@ module _ (scenario : Parts) (setup : Setup) (setup_is : IsSetupOf scenario setup
   halt_faithful (Collect producer) fault records cut halts = absurd halts
   halt_faithful (Scrape producer) fault records cut halts = absurd halts
   halt_faithful (CloseProducer producer) fault records cut halts = absurd halts
+  halt_faithful (CommitRaw place chunk) fault records cut halts = absurd halts
 
 -- ---- from the first line on
 
@@ -227,7 +235,7 @@ module _ {T W S : Type 0} (means : Meaning T W S) (scenario : Scenario) (is : Is
           ended_host = ended.host
 
           all : HasDone means (schedule_of (parts_of scenario)) played.notes old taken new left
-          all = subst (λ (notes : List FlushNote). HasDone means (schedule_of (parts_of scenario)) notes old taken new left)
+          all = subst (λ (notes : List ActNote). HasDone means (schedule_of (parts_of scenario)) notes old taken new left)
               (append-nil played.notes)
               (done_both means line_acts end_acts played.notes [] old mid new taken between left played.done ended.done)
 
@@ -268,6 +276,13 @@ module _ {T W S : Type 0} (means : Meaning T W S) (scenario : Scenario) (is : Is
               let specs = named in
               omega (arith, room, joined, cores, specs)
 
+          pub marks_many : (marks : List Bool) → AreMarked scenario.lines (length scenario.writers.items) marks → length marks ≡ length new.writers.items
+          marks_many marks marked =
+              let many = marked.many in
+              let cores = ended.host.stands.many in
+              let specs = named in
+              omega (arith, many, cores, specs)
+
           pub buffers_room : (done : Done) → vec_len done.buffers ≡ vec_len scenario.buffers
               → vec_len done.buffers ≡ length new.helper.service.specs.items
           buffers_room done room =
@@ -279,7 +294,7 @@ module _ {T W S : Type 0} (means : Meaning T W S) (scenario : Scenario) (is : Is
           ended_tally = subst (λ (flushes : Flushes). IsTally played.notes (length scenario.writers.items) flushes) (sym ended.flushes)
               played.at.going.kept.tally
 
-          pub ended_noted : (notes : List FlushNote) × IsTally notes (length (means.setup new.table).writers) new.flushes
+          pub ended_noted : (notes : List ActNote) × IsTally notes (length (means.setup new.table).writers) new.flushes
           ended_noted = (played.notes, subst (λ (writers : ℕ). IsTally played.notes writers new.flushes) (sym named) ended_tally)
 
           -- the sink has taken the trace of the world that is reached
@@ -294,22 +309,26 @@ module _ {T W S : Type 0} (means : Meaning T W S) (scenario : Scenario) (is : Is
               (laws.told_service_view new.table new.helper.service.seat reached.0 reached.1 ended.host.stands.served.serves)
 
           -- What was counted is the report of the replay.
-          pub all_replayed : (buffers : List BufferCounts) (sequences : List SequenceCounts) (flushes : Flushes)
-              → CountsAll means new buffers sequences flushes → flushes.made ≡ new.flushes.made
-              → vec_len flushes.chunks ≡ vec_len new.flushes.chunks
-              → Replays (parts_of scenario) taken left (report_text buffers sequences flushes.chunks.items)
-          all_replayed buffers sequences flushes counts same_made same_room =
+          pub all_replayed : (marks : List Bool) → AreMarked scenario.lines (length scenario.writers.items) marks
+              → (buffers : List BufferCounts) (sequences : List SequenceCounts) (flushes : Flushes) (raws : List RawLine)
+              → CountsAll means new marks buffers sequences flushes → flushes.made ≡ new.flushes.made
+              → vec_len flushes.chunks ≡ vec_len new.flushes.chunks → flushes.answers ≡ new.flushes.answers
+              → raws ≡ raw_lines (raw_numbers scenario.lines) flushes.answers.items
+              → Replays (parts_of scenario) taken left (report_text buffers sequences flushes.chunks.items ++ raw_text raws)
+          all_replayed marks marked buffers sequences flushes raws counts same_made same_room same_answers raws_are =
               let parts : Parts = parts_of scenario in
               let playable = is_playable scenario is in
-              let counted = counts parts played.notes reached.0 reached.1 is_played playable ended_first ended_tally in
+              let counted = counts parts played.notes reached.0 reached.1 is_played playable ended_first ended_tally marked in
               let room = played.at.going.room in
               let ended_made : new.flushes.made ≡ mid.flushes.made = ap (λ (f : Flushes). f.made) ended.flushes in
               let ended_room : vec_len new.flushes.chunks ≡ vec_len mid.flushes.chunks =
               ap (λ (f : Flushes). vec_len f.chunks) ended.flushes in
-              let report = report_is parts (means.setup new.table) reached.0 played.notes buffers sequences flushes counted
-              (omega (arith, same_made, same_room, room, ended_made, ended_room)) in
+              let told : flushes.answers.items ≡ answers_in played.notes = ap (λ (v : _). v.items) same_answers ∙ ended_tally.told in
+              let report = report_is parts (means.setup new.table) reached.0 played.notes buffers sequences flushes raws counted
+              (omega (arith, same_made, same_room, room, ended_made, ended_room))
+              (raws_are ∙ ap (λ (answers : List RawAnswer). raw_lines (raw_numbers scenario.lines) answers) told) in
               replays_of parts (means.setup new.table) reached.0 played.notes taken left
-              (report_text buffers sequences flushes.chunks.items) is_played playable
+              (report_text buffers sequences flushes.chunks.items ++ raw_text raws) is_played playable
               (subst (λ (setup : Setup). left ≡ after_told taken (trace_of (records_after (buffers_of parts setup)
               (history_of reached.0.service)))) (sym same) traced)
               report
@@ -317,18 +336,20 @@ module _ {T W S : Type 0} (means : Meaning T W S) (scenario : Scenario) (is : Is
           -- And the clones that were filled are those of the replay.
           pub all_cloned : (clones : List Buffer)
               → ((parts : Parts) → parts.lines ≡ lines → Begins means parts old → HaveCloned means parts [] parts.lines old mid clones)
-              → (buffers : List BufferCounts) (sequences : List SequenceCounts) (flushes : Flushes)
-              → CountsAll means new buffers sequences flushes → flushes.made ≡ new.flushes.made
-              → vec_len flushes.chunks ≡ vec_len new.flushes.chunks
-              → ReplaysCloning (parts_of scenario) taken left (report_text buffers sequences flushes.chunks.items) clones
+              → (marks : List Bool) → AreMarked scenario.lines (length scenario.writers.items) marks
+              → (buffers : List BufferCounts) (sequences : List SequenceCounts) (flushes : Flushes) (raws : List RawLine)
+              → CountsAll means new marks buffers sequences flushes → flushes.made ≡ new.flushes.made
+              → vec_len flushes.chunks ≡ vec_len new.flushes.chunks → flushes.answers ≡ new.flushes.answers
+              → raws ≡ raw_lines (raw_numbers scenario.lines) flushes.answers.items
+              → ReplaysCloning (parts_of scenario) taken left (report_text buffers sequences flushes.chunks.items ++ raw_text raws) clones
           unfolding all_replayed
-          all_cloned clones cloned buffers sequences flushes counts same_made same_room =
+          all_cloned clones cloned marks marked buffers sequences flushes raws counts same_made same_room same_answers raws_are =
               let parts : Parts = parts_of scenario in
               let way = cloned parts (sym seen) begins (first_world (means.setup old.table)) made.told in
               let ending = ended.done.plays way.0 way.1 in
               let last : ending.0 ≡ reached.0 = same_Some ending.0 reached.0 (sym ending.1 ∙ reached.1) in
-              replays_cloning parts taken left (report_text buffers sequences flushes.chunks.items) clones
-              (all_replayed buffers sequences flushes counts same_made same_room) way.0
+              replays_cloning parts taken left (report_text buffers sequences flushes.chunks.items ++ raw_text raws) clones
+              (all_replayed marks marked buffers sequences flushes raws counts same_made same_room same_answers raws_are) way.0
               (subst (λ (s : Setup). MakeClones parts s [] parts.lines (first_world s) way.0 clones) (sym same) way.2)
               []
               (subst (λ (w : World). Plays (means.setup new.table) (buffers_of parts (means.setup new.table)) (last_acts parts) way.0 w []) last

@@ -1,6 +1,6 @@
 -- What a flush request, and the answers to it one behind another, leave.
 use Rattle.std.proofs.Common.{◌≡◌, ◌≢◌, ◌∙◌, ℕ, suc, ◌+◌, ◌-◌, ◌<◌, ◌≤◌, ◌&&◌, nat_lt, Bool, true, false, not, cond, Option, Some, None, List, [], ◌∷◌, ◌++◌, length, map, drop, inl, inr, refl, sym, ap, subst, arith, append_assoc, append-nil}
-use Rattle.std.specs.Prelude.{slice_get, slice_index, slice_index_or, slice_set, if◌then◌else◌}
+use Rattle.std.specs.Prelude.{slice_get, slice_index, slice_index_or, slice_set, vec_len, vec_capacity, if◌then◌else◌}
 use Rattle.std.proofs.lemmas.Bool.{cases_eq}
 use Rattle.std.proofs.lemmas.Bool.Decides.{nat_tests}
 use Rattle.std.proofs.lemmas.List.{get_or-set_same, get_or-set_other}
@@ -26,7 +26,8 @@ use Rattle.chunk_plain.specs.Views.{ServiceView}
 use Rattle.trace_writer.specs.declared.writer.WriterCore.{WriterCore}
 use Rattle.service_core.specs.Agreement.{KeepsTaking, first_of, spec_at}
 use Rattle.replay_model.specs.Acts.{Act, Answer, Request, Collect}
-use Rattle.replay_model.specs.Flushes.{FlushNote, Requested, request_count}
+use Rattle.replay_model.specs.ActNotes.{ActNote, Requested}
+use Rattle.replay_model.specs.Flushes.{request_count}
 use Rattle.replay_model.proofs.PlayLemmas.{plays_one}
 use Rattle.replay_model.specs.Schedule.{acts_of, is_due, is_due_after, open_places, open_producers}
 use Rattle.replay_host.specs.declared.host.Host.{Host}
@@ -35,10 +36,12 @@ use Rattle.replay_host.specs.Asking.{AreReady}
 use Rattle.replay_host.specs.Lines.{MOST_REQUESTS, IsGoing, IsAt, IsDueAt, IsLinePlayed, Moment, ComesNext, is_open_at, coming_at}
 use Rattle.replay_host.specs.Playing.{IsHost, IsOpenAt, HasDone, IsTraceOf}
 use Rattle.replay_host.specs.Serving.{HasFlags, HasServed}
+use Rattle.replay_host.specs.Raws.{raws_in}
 use Rattle.replay_host.specs.Tally.{IsTally}
 use Rattle.replay_host.proofs.AnswerLemmas.{first_session, writing_is}
 use Rattle.replay_host.proofs.GoingLemmas.{goes_none, goes_both, goes_still, keeps_served, done_both, going_still, kept_still}
 use Rattle.replay_host.proofs.LineLemmas.{closed_same, due_more, ready_nothing}
+use Rattle.replay_host.proofs.RawLinesLemmas.{raws_fall}
 use Rattle.replay_host.proofs.MomentLemmas.{core_there, place_inside, flag_is, writers_are}
 use Rattle.replay_host.proofs.OpenLemmas.{places_open, places_closed, places_none, rest_more, rest_same, rest_none}
 use Rattle.replay_host.proofs.RowLemmas.{AreLaws}
@@ -78,18 +81,18 @@ module _ {T W S : Type 0} (means : Meaning T W S) (scenario : Parts) (before : L
   }
 
   -- where the writers before a place were asked, the lines that are played stay so
-  pub amid_still : (rest : List NumberedLine) (notes : List FlushNote) (place : ℕ) (old mid : Host T W S)
+  pub amid_still : (rest : List NumberedLine) (notes : List ActNote) (place : ℕ) (old mid : Host T W S)
       → IsGoing means scenario before rest notes old
       → (to : HaveAnsweredTo means scenario before place old mid) → IsGoing means scenario before rest (notes ++ to.later) mid
   amid_still rest notes place old mid going to = goes_still means scenario before rest notes to.later to.acts old mid going to.goes
 
   -- the next writer is there, and may be asked where its producer counts as open
-  pub writers_many : (rest : List NumberedLine) (notes : List FlushNote) (host : Host T W S) → IsGoing means scenario before rest notes host
+  pub writers_many : (rest : List NumberedLine) (notes : List ActNote) (host : Host T W S) → IsGoing means scenario before rest notes host
       → length host.writers.items ≡ length scenario.writers
   writers_many rest notes host going =
       going.kept.is_host.stands.many ∙ ap (λ (ws : List WriterSpec). length ws) (writers_are means scenario before notes host going.kept)
 
-  pub open_is : (rest : List NumberedLine) (notes : List FlushNote) (place : ℕ) (old mid : Host T W S)
+  pub open_is : (rest : List NumberedLine) (notes : List ActNote) (place : ℕ) (old mid : Host T W S)
       → IsGoing means scenario before rest notes old
       → HaveAnsweredTo means scenario before place old mid → place < length scenario.writers → (said : Bool)
       → slice_index_or mid.open_producers.items (producer_of (means.setup mid.table) place - 1) false ≡ said
@@ -97,7 +100,7 @@ module _ {T W S : Type 0} (means : Meaning T W S) (scenario : Parts) (before : L
   open_is rest notes place old mid goes to below said is =
       sym (flag_is means scenario before (notes ++ to.later) mid (amid_still rest notes place old mid goes to).kept place below) ∙ is
 
-  pub may_answer : (rest : List NumberedLine) (notes : List FlushNote) (place : ℕ) (old mid : Host T W S)
+  pub may_answer : (rest : List NumberedLine) (notes : List ActNote) (place : ℕ) (old mid : Host T W S)
       → IsGoing means scenario before rest notes old
       → HaveAnsweredTo means scenario before place old mid → place < length scenario.writers → IsOpenAt means mid place
       → MayAnswer means place mid
@@ -108,7 +111,7 @@ module _ {T W S : Type 0} (means : Meaning T W S) (scenario : Parts) (before : L
   }
 
   -- one writer more was asked
-  pub answered_more : (rest : List NumberedLine) (notes : List FlushNote) (place : ℕ) (old mid new : Host T W S)
+  pub answered_more : (rest : List NumberedLine) (notes : List ActNote) (place : ℕ) (old mid new : Host T W S)
       → IsGoing means scenario before rest notes old → HaveAnsweredTo means scenario before place old mid → place < length scenario.writers
       → is_open_at scenario before place ≡ true → HasAnsweredBetween means place mid new
       → HaveAnsweredTo means scenario before (suc place) old new
@@ -255,7 +258,7 @@ module _ {T W S : Type 0} (means : Meaning T W S) (scenario : Parts) (before : L
       ∙ append-nil (calls_asked number before)
 
   -- behind the request that it makes, the line is no longer to come
-  pub going_requested : (notes : List FlushNote) (old new : Host T W S) → IsGoing means scenario before (one ∷ rest) notes old
+  pub going_requested : (notes : List ActNote) (old new : Host T W S) → IsGoing means scenario before (one ∷ rest) notes old
       → HasRequested means old new
       → IsGoing means scenario before rest (notes ++ Requested ∷ []) new
   going_requested notes old new going made = record {
@@ -274,12 +277,14 @@ module _ {T W S : Type 0} (means : Meaning T W S) (scenario : Parts) (before : L
         let counted : request_count one.what ≡ 1 = ap request_count is in
         omega (arith, was, more, same, counted));
     few = subst (λ (n : ℕ). n < MOST_REQUESTS) (sym made.room) going.few;
+    told_room = subst (λ (v : _). vec_len v + raws_in rest ≤ vec_capacity v) (sym made.told)
+        (let fall = raws_fall one rest in let was = going.told_room in omega (arith, fall, was));
     started = made.state ∙ going.started;
     requests = made.requests ∙ ap (λ (n : ℕ). n + 1) going.requests ∙ sym made.made;
   }
 
   -- and it counts as played
-  pub going_noted : (notes : List FlushNote) (host : Host T W S) → IsGoing means scenario before rest notes host
+  pub going_noted : (notes : List ActNote) (host : Host T W S) → IsGoing means scenario before rest notes host
       → IsGoing means scenario (before ++ one ∷ []) rest notes host
   going_noted notes host going = record {
     kept = record {
@@ -296,6 +301,7 @@ module _ {T W S : Type 0} (means : Meaning T W S) (scenario : Parts) (before : L
     ready = going.ready;
     room = going.room;
     few = going.few;
+    told_room = going.told_room;
     started = going.started;
     requests = going.requests;
   }
@@ -305,7 +311,7 @@ module _ {T W S : Type 0} (means : Meaning T W S) (scenario : Parts) (before : L
   due_test false was made most = grind (arith, nat_tests)
 
   -- the request is due exactly where a packet is begun
-  pub due_requested : (notes : List FlushNote) (old mid behind new : Host T W S) → IsTally notes (length scenario.writers) old.flushes
+  pub due_requested : (notes : List ActNote) (old mid behind new : Host T W S) → IsTally notes (length scenario.writers) old.flushes
       → HasRequested means old mid → HaveAnswered means scenario before mid behind → new.flushes ≡ behind.flushes
       → (place : ℕ) → place < length scenario.writers → is_open_at scenario (before ++ one ∷ []) place ≡ true
       → IsDueAt scenario (before ++ one ∷ []) place new
@@ -366,20 +372,20 @@ module _ {T W S : Type 0} (means : Meaning T W S) (moment : Moment) (old mid : H
         → HasServed means (map Collect (open_producers moment.before 1 moment.scenario.producers)) behind new
         → IsLinePlayed means moment old taken new taken
     request_played new taken served =
-        let asked : List FlushNote = moment.notes ++ Requested ∷ [] in
+        let asked : List ActNote = moment.notes ++ Requested ∷ [] in
         let answers : List Act = map Answer (open_places moment.before 0 moment.scenario.writers) in
         let takings : List Act = map Collect (open_producers moment.before 1 moment.scenario.producers) in
         let done = served.done taken in
         let keeps = keeps_served means behind new served.writers done.setup_is done.first served.opened served.session in
         let tally : IsTally ((asked ++ all.later) ++ []) (length moment.scenario.writers) new.flushes =
-        subst (λ (ns : List FlushNote). IsTally ns (length moment.scenario.writers) new.flushes) (sym (append-nil (asked ++ all.later)))
+        subst (λ (ns : List ActNote). IsTally ns (length moment.scenario.writers) new.flushes) (sym (append-nil (asked ++ all.later)))
         (subst (λ (f : _). IsTally (asked ++ all.later) (length moment.scenario.writers) f)
         (sym served.writers.flushes) answered_going.kept.tally) in
         let going = going_still means moment.scenario moment.before moment.rest
         (asked ++ all.later) [] behind new answered_going served.host keeps tally in
         record {
           later = Requested ∷ all.later ++ [];
-          at = subst (λ (ns : List FlushNote). IsAt means moment.scenario (moment.before ++ moment.line ∷ []) moment.rest ns new)
+          at = subst (λ (ns : List ActNote). IsAt means moment.scenario (moment.before ++ moment.line ∷ []) moment.rest ns new)
               (append_assoc asked all.later [] ∙ append_assoc moment.notes (Requested ∷ []) (all.later ++ []))
               (record {
                 going = going_noted means moment.scenario moment.before moment.line moment.rest is ((asked ++ all.later) ++ []) new going;

@@ -5,7 +5,8 @@ use Rattle.std.proofs.lemmas.Bool.{cases_eq, eq-eqb}
 use Rattle.std.proofs.lemmas.List.{length-replicate}
 use Rattle.std.proofs.lemmas.Option.{slice_get_within, get_or_from_slice_get}
 use Rattle.chunk_plain.specs.Views.{Taken, none_taken, ServiceView, taken_of}
-use Rattle.replay_model.specs.Flushes.{FlushNote, Requested, Answered, first_answer, chunks_answered, flush_sums}
+use Rattle.replay_model.specs.ActNotes.{ActNote, Requested, Answered, Told}
+use Rattle.replay_model.specs.Flushes.{first_answer, chunks_answered, flush_sums}
 use Rattle.replay_host.specs.declared.flushes.Flushes.{Flushes}
 use Rattle.replay_host.specs.Counting.{answers_to}
 use Rattle.replay_host.specs.Tally.{nobody, IsTally}
@@ -14,11 +15,11 @@ use Rattle.replay_host.proofs.TallyLemmas.{answer_behind, first_behind, first_ot
 -- ---- the first answer of each
 
 -- a writer that hasn't answered yet has its first answer among the notes
-first_still : (view : ServiceView) (place : ℕ) (notes : List FlushNote) (n : ℕ) → n ≤ place
+first_still : (view : ServiceView) (place : ℕ) (notes : List ActNote) (n : ℕ) → n ≤ place
     → first_answer place (notes ++ answers_to view n) ≡ first_answer place notes
-first_still view place notes zero before = ap (λ (all : List FlushNote). first_answer place all) (append-nil notes)
+first_still view place notes zero before = ap (λ (all : List ActNote). first_answer place all) (append-nil notes)
 first_still view place notes (suc n) before =
-    ap (λ (all : List FlushNote). first_answer place all)
+    ap (λ (all : List ActNote). first_answer place all)
     (sym (append_assoc notes (answers_to view n) (Answered n (taken_of view n).count ∷ [])))
     ∙ first_other place n (taken_of view n).count (notes ++ answers_to view n) (λ same. omega (arith, before, same))
     ∙ first_still view place notes n (omega (arith, before))
@@ -29,11 +30,11 @@ answer_counts None chunks = refl
 answer_counts (Some one) chunks = refl
 
 -- each that has answered has its first answer, or else what was taken of it
-pub first_is : (view : ServiceView) (place : ℕ) (notes : List FlushNote) (n : ℕ) → place < n
+pub first_is : (view : ServiceView) (place : ℕ) (notes : List ActNote) (n : ℕ) → place < n
     → first_answer place (notes ++ answers_to view n) ≡ Some (unwrap_or (first_answer place notes) (taken_of view place).count)
 first_is view place notes zero below = absurd (omega (arith, below))
 first_is view place notes (suc n) below =
-    ap (λ (all : List FlushNote). first_answer place all)
+    ap (λ (all : List ActNote). first_answer place all)
     (sym (append_assoc notes (answers_to view n) (Answered n (taken_of view n).count ∷ [])))
     ∙ by_place (cases_eq n place) (λ apart. first_is view place notes n (omega (arith, below, apart)))
   where
@@ -53,7 +54,7 @@ first_is view place notes (suc n) below =
 -- ---- the sums
 
 -- the sum over the writers from this place on
-sum_rest : (view : ServiceView) (notes : List FlushNote) (n place : ℕ) (taken : List Taken)
+sum_rest : (view : ServiceView) (notes : List ActNote) (n place : ℕ) (taken : List Taken)
     → ((k : ℕ) (one : Taken) → slice_get taken k ≡ Some one → (place + k < n) × (taken_of view (place + k) ≡ one))
     → chunks_answered (notes ++ answers_to view n) place (nobody (length taken)) ≡ chunks_answered notes place taken
 sum_rest view notes n place [] each = refl
@@ -72,11 +73,12 @@ sum_rest view notes n place (one ∷ taken) each =
     omega (arith, head, rest)
 
 -- answers make no request
-no_request : (taken : List Taken) (notes : List FlushNote) (place chunks : ℕ) → flush_sums notes taken ≡ []
+no_request : (taken : List Taken) (notes : List ActNote) (place chunks : ℕ) → flush_sums notes taken ≡ []
     → flush_sums (notes ++ Answered place chunks ∷ []) taken ≡ []
 no_request taken [] place chunks none = refl
 no_request taken (Requested ∷ notes) place chunks none = absurd (let never = none in cc)
 no_request taken (Answered other count ∷ notes) place chunks none = no_request taken notes place chunks none
+no_request taken (Told answer ∷ notes) place chunks none = no_request taken notes place chunks none
 
 none_made : (view : ServiceView) (taken : List Taken) (n : ℕ) → flush_sums (answers_to view n) taken ≡ []
 none_made view taken zero = refl
@@ -91,10 +93,11 @@ taken_each view n long k one at =
     (omega (arith, inside, long), ap (λ (p : ℕ). taken_of view p) here ∙ get_or_from_slice_get view.taken k one none_taken at)
 
 -- the sums behind the answers of all are those with what was taken
-pub sums_rest : (view : ServiceView) (n : ℕ) → n ≡ length view.taken → (notes : List FlushNote)
+pub sums_rest : (view : ServiceView) (n : ℕ) → n ≡ length view.taken → (notes : List ActNote)
     → flush_sums (notes ++ answers_to view n) (nobody n) ≡ flush_sums notes view.taken
 sums_rest view n long [] = none_made view (nobody n) n
 sums_rest view n long (Answered place chunks ∷ notes) = sums_rest view n long notes
+sums_rest view n long (Told answer ∷ notes) = sums_rest view n long notes
 sums_rest view n long (Requested ∷ notes) =
     ap (λ (m : ℕ). chunks_answered (notes ++ answers_to view n) 0 (nobody m) ∷ flush_sums (notes ++ answers_to view n) (nobody n)) long
     ∙ ap (λ (sum : ℕ). sum ∷ flush_sums (notes ++ answers_to view n) (nobody n))
@@ -104,7 +107,7 @@ sums_rest view n long (Requested ∷ notes) =
 -- ---- what is kept of them
 
 -- where all for which there was room were made, what is kept are the sums
-pub none_over : (notes : List FlushNote) (writers : ℕ) (flushes : Flushes) → IsTally notes writers flushes
+pub none_over : (notes : List ActNote) (writers : ℕ) (flushes : Flushes) → IsTally notes writers flushes
     → flushes.made ≡ vec_len flushes.chunks
     → vec_len flushes.chunks ≡ length flushes.chunks.items → flushes.chunks.items ≡ flush_sums notes (nobody writers)
 none_over notes writers flushes tally made joined =

@@ -47,12 +47,11 @@ served_stands {T} {W} means old new cores before after stands step served = reco
 -- the service as it is behind a step
 pub served_is : {T W S : Type 0} (means : Meaning T W S) (old new : T) (before after : ServiceCore S) → IsServed means old before
     → IsServiceStep means old before.seat new after.seat → ServiceAgrees (means.setup old) (means.service_view new after.seat) after
-    → (means.service_view new after.seat).commits ≡ [] → IsServed means new after
-served_is means old new before after served step agrees own = record {
+    → IsServed means new after
+served_is means old new before after served step agrees = record {
   serves = step.seat_stays;
   agrees = subst (λ (s : Setup). ServiceAgrees s (means.service_view new after.seat) after) (sym step.setup_stays) agrees;
   reads = step.reads_stay served.reads;
-  own = own;
 }
 
 -- what is kept of the set-up stays right where the same sequences are closed

@@ -1,6 +1,6 @@
 -- A line that the service plays alone.
 use Rattle.std.proofs.Common.{◌≡◌, ◌∙◌, ℕ, suc, ◌+◌, ◌-◌, ◌<◌, ◌≤◌, ◌==◌, ◌&&◌, ◌||◌, Bool, true, false, not, List, [], ◌∷◌, ◌++◌, length, vec_len, get_or, set, inl, inr, refl, sym, ap, subst, arith, append-nil}
-use Rattle.std.specs.Prelude.{slice_index, slice_index_or, slice_set, nat_lt}
+use Rattle.std.specs.Prelude.{slice_index, slice_index_or, slice_set, nat_lt, vec_capacity}
 use Rattle.std.proofs.lemmas.Bool.{eq-eqb, ne_eqb, cases_eq, or_right}
 use Rattle.std.proofs.lemmas.List.{get_or-set_same, get_or-set_other}
 use Rattle.byte_io.specs.Bytes.{Intake}
@@ -15,7 +15,8 @@ use Rattle.chunk_plain.specs.Meaning.{Meaning}
 use Rattle.chunk_plain.specs.Setup.{Setup}
 use Rattle.service_core.specs.Agreement.{first_of, spec_at}
 use Rattle.replay_model.specs.Acts.{Act, CloseProducer}
-use Rattle.replay_model.specs.Flushes.{FlushNote, requests_in}
+use Rattle.replay_model.specs.ActNotes.{ActNote}
+use Rattle.replay_model.specs.Flushes.{requests_in}
 use Rattle.replay_model.specs.Played.{IsSetupOf, buffers_of}
 use Rattle.replay_model.specs.Schedule.{acts_of, is_due}
 use Rattle.replay_host.specs.declared.host.Host.{Host}
@@ -24,18 +25,20 @@ use Rattle.replay_host.specs.Asks.{AsksNothing}
 use Rattle.replay_host.specs.Lines.{MOST_REQUESTS, IsKept, IsLinePlayed, Moment, ComesNext}
 use Rattle.replay_host.specs.Playing.{IsHost, HasDone, LeavesWriters}
 use Rattle.replay_host.specs.Serving.{ComesServing}
+use Rattle.replay_host.specs.Raws.{raws_in}
 use Rattle.replay_host.specs.Tally.{IsTally}
 use Rattle.replay_host.proofs.GoingLemmas.{keeps_served, going_still, writer_was}
 use Rattle.replay_host.proofs.LineLemmas.{closed_more, closed_same, due_more, ready_nothing, kept_more, going_nothing}
+use Rattle.replay_host.proofs.RawLinesLemmas.{raws_fall}
 
 -- what is kept of flush requests stays, where no note is added
-tally_still : {T W S : Type 0} (old new : Host T W S) (notes : List FlushNote) (writers : ℕ) → new.flushes ≡ old.flushes → IsTally notes writers old.flushes
+pub tally_still : {T W S : Type 0} (old new : Host T W S) (notes : List ActNote) (writers : ℕ) → new.flushes ≡ old.flushes → IsTally notes writers old.flushes
     → IsTally (notes ++ []) writers new.flushes
 tally_still old new notes writers same tally =
-    subst (λ (ns : List FlushNote). IsTally ns writers new.flushes) (sym (append-nil notes)) (subst (λ (f : _). IsTally notes writers f) (sym same) tally)
+    subst (λ (ns : List ActNote). IsTally ns writers new.flushes) (sym (append-nil notes)) (subst (λ (f : _). IsTally notes writers f) (sym same) tally)
 
 -- a request is due where one was
-due_nothing : (number : ℕ) (before : List NumberedLine) (line : NumberedLine) → AsksNothing line.what
+pub due_nothing : (number : ℕ) (before : List NumberedLine) (line : NumberedLine) → AsksNothing line.what
     → (is_writing (packets_of (calls_asked number (before ++ line ∷ []))) && is_due number (before ++ line ∷ []))
     ≡ (is_writing (packets_of (calls_asked number before)) && is_due number before)
 due_nothing number before line nothing =
@@ -137,6 +140,8 @@ close_played {T} {W} {S} means moment producer old new taken left what least mos
               let is : old.flushes.made + requests_in moment.rest ≡ vec_len old.flushes.chunks = omega (arith, none, was) in is)
               ∙ sym keeps.room;
           few = subst (λ (n : ℕ). n < MOST_REQUESTS) (sym keeps.room) next.at.going.few;
+          told_room = subst (λ (v : _). vec_len v + raws_in moment.rest ≤ vec_capacity v) (sym keeps.told)
+              (let fall = raws_fall moment.line moment.rest in let was = next.at.going.told_room in omega (arith, fall, was));
           started = keeps.state ∙ next.at.going.started;
           requests = keeps.requests ∙ next.at.going.requests ∙ sym keeps.made;
         };

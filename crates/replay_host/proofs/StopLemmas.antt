@@ -17,7 +17,7 @@ use Rattle.service_core.specs.Agreement.{first_of}
 use Rattle.service_core.proofs.AgreeLemmas.{first_stays}
 use Rattle.replay_model.specs.Acts.{Act, Ask, ReadAll, asks}
 use Rattle.replay_model.specs.Does.{Reads}
-use Rattle.replay_model.specs.Flushes.{FlushNote}
+use Rattle.replay_model.specs.ActNotes.{ActNote}
 use Rattle.replay_model.specs.Plays.{Plays}
 use Rattle.replay_model.proofs.PlayLemmas.{plays_both}
 use Rattle.replay_host.specs.declared.fault.HostFault.{HostFault}
@@ -47,7 +47,7 @@ stopped_more means acts more old taken fault left stops was told start traced =
     }
 
 -- acts that stop do so behind others that were done
-pub stopped_later : {T W S : Type 0} (means : Meaning T W S) (acts others : List Act) (notes : List FlushNote) (old mid : Host T W S)
+pub stopped_later : {T W S : Type 0} (means : Meaning T W S) (acts others : List Act) (notes : List ActNote) (old mid : Host T W S)
     (taken between : Intake) (fault : HostFault) (left : Intake)
     → HasDone means acts notes old taken mid between → StopsIn means others mid between fault left
     → StopsIn means (acts ++ others) old taken fault left

@@ -1,11 +1,13 @@
--- What a request and an answer make of the counts of requests.
+-- What a request, an answer and what a commit was answered make of the counts of requests.
 use Rattle.std.proofs.Common.{◌≡◌, ◌≢◌, ◌∙◌, ℕ, zero, suc, ◌+◌, ◌*◌, ◌^◌, ◌<◌, ◌≤◌, ◌⊎◌, ◌==◌, ◌-◌, Bool, true, false, Option, Some, None, List, [], ◌∷◌, ◌++◌, length, length-append, replicate, get_or, refl, sym, ap, arith, inl, inr, cond, add-zero, zero-add}
 use Rattle.std.specs.Prelude.{is_some, unwrap_or}
 use Rattle.std.proofs.Math.Seq.{get_or-append_right}
 use Rattle.std.proofs.lemmas.List.{ext_get_or, get_or_append_left}
 use Rattle.std.proofs.lemmas.Bool.{cases_eq, cases_lt, eq-eqb, ne_eqb}
 use Rattle.chunk_plain.specs.Views.{Taken}
-use Rattle.replay_model.specs.Flushes.{FlushNote, Requested, Answered, first_answer, chunks_answered, flush_sums}
+use Rattle.loss_report.specs.declared.raws.RawAnswer.{RawAnswer}
+use Rattle.replay_model.specs.ActNotes.{ActNote, Requested, Answered, Told, answers_in}
+use Rattle.replay_model.specs.Flushes.{first_answer, chunks_answered, flush_sums}
 use Rattle.replay_host.specs.Tally.{nobody, answered_by, AreAnswers}
 
 -- a number more in each sum from this place on
@@ -35,12 +37,13 @@ raised_above (suc from) more (x ∷ xs) (suc k) above inside = raised_above from
 
 -- ---- a request
 
-first_request : (place : ℕ) (notes : List FlushNote) → first_answer place (notes ++ Requested ∷ []) ≡ first_answer place notes
+first_request : (place : ℕ) (notes : List ActNote) → first_answer place (notes ++ Requested ∷ []) ≡ first_answer place notes
 first_request place [] = refl
 first_request place (Requested ∷ notes) = first_request place notes
 first_request place (Answered other chunks ∷ notes) = ap (λ (o : Option ℕ). cond (other == place) (Some chunks) o) (first_request place notes)
+first_request place (Told answer ∷ notes) = first_request place notes
 
-sum_request : (notes : List FlushNote) (place : ℕ) (taken : List Taken) → chunks_answered (notes ++ Requested ∷ []) place taken ≡ chunks_answered notes place taken
+sum_request : (notes : List ActNote) (place : ℕ) (taken : List Taken) → chunks_answered (notes ++ Requested ∷ []) place taken ≡ chunks_answered notes place taken
 sum_request notes place [] = refl
 sum_request notes place (one ∷ taken) =
     ap (λ (o : Option ℕ). unwrap_or o one.count + chunks_answered (notes ++ Requested ∷ []) (suc place) taken) (first_request place notes)
@@ -50,24 +53,64 @@ none_sum : (place writers : ℕ) → chunks_answered [] place (nobody writers) �
 none_sum place zero = refl
 none_sum place (suc writers) = ap (λ (n : ℕ). 0 + n) (none_sum (suc place) writers)
 
-pub sums_request : (notes : List FlushNote) (writers : ℕ) → flush_sums (notes ++ Requested ∷ []) (nobody writers) ≡ flush_sums notes (nobody writers) ++ 0 ∷ []
+pub sums_request : (notes : List ActNote) (writers : ℕ) → flush_sums (notes ++ Requested ∷ []) (nobody writers) ≡ flush_sums notes (nobody writers) ++ 0 ∷ []
 sums_request [] writers = ap (λ (n : ℕ). n ∷ []) (none_sum 0 writers)
 sums_request (Requested ∷ notes) writers =
     ap (λ (n : ℕ). n ∷ flush_sums (notes ++ Requested ∷ []) (nobody writers)) (sum_request notes 0 (nobody writers))
     ∙ ap (λ (ns : List ℕ). chunks_answered notes 0 (nobody writers) ∷ ns) (sums_request notes writers)
 sums_request (Answered place chunks ∷ notes) writers = sums_request notes writers
+sums_request (Told answer ∷ notes) writers = sums_request notes writers
 
-pub answered_request : (place : ℕ) (notes : List FlushNote) → answered_by place (notes ++ Requested ∷ []) ≡ answered_by place notes
+pub answered_request : (place : ℕ) (notes : List ActNote) → answered_by place (notes ++ Requested ∷ []) ≡ answered_by place notes
 answered_request place [] = refl
 answered_request place (Requested ∷ notes) =
     ap (λ (o : Option ℕ). cond (is_some o) (suc (answered_by place (notes ++ Requested ∷ []))) (answered_by place (notes ++ Requested ∷ []))) (first_request place notes)
     ∙ ap (λ (n : ℕ). cond (is_some (first_answer place notes)) (suc n) n) (answered_request place notes)
 answered_request place (Answered other chunks ∷ notes) = answered_request place notes
+answered_request place (Told answer ∷ notes) = answered_request place notes
 
-pub fits_append : (writers : ℕ) (notes more : List FlushNote) → AreAnswers writers notes → AreAnswers writers more → AreAnswers writers (notes ++ more)
+pub fits_append : (writers : ℕ) (notes more : List ActNote) → AreAnswers writers notes → AreAnswers writers more → AreAnswers writers (notes ++ more)
 fits_append writers [] more first second = second
 fits_append writers (Requested ∷ notes) more first second = fits_append writers notes more first second
 fits_append writers (Answered place chunks ∷ notes) more first second = (first.0, first.1, fits_append writers notes more first.2 second)
+fits_append writers (Told answer ∷ notes) more first second = fits_append writers notes more first second
+
+-- ---- what a commit was answered
+
+pub told_append : (notes more : List ActNote) → answers_in (notes ++ more) ≡ answers_in notes ++ answers_in more
+told_append [] more = refl
+told_append (Requested ∷ notes) more = told_append notes more
+told_append (Answered place chunks ∷ notes) more = told_append notes more
+told_append (Told answer ∷ notes) more = ap (λ (answers : List RawAnswer). answer ∷ answers) (told_append notes more)
+
+first_told : (place : ℕ) (notes : List ActNote) (told : RawAnswer) → first_answer place (notes ++ Told told ∷ []) ≡ first_answer place notes
+first_told place [] told = refl
+first_told place (Requested ∷ notes) told = first_told place notes told
+first_told place (Answered other chunks ∷ notes) told = ap (λ (o : Option ℕ). cond (other == place) (Some chunks) o) (first_told place notes told)
+first_told place (Told answer ∷ notes) told = first_told place notes told
+
+sum_told : (notes : List ActNote) (place : ℕ) (taken : List Taken) (told : RawAnswer)
+    → chunks_answered (notes ++ Told told ∷ []) place taken ≡ chunks_answered notes place taken
+sum_told notes place [] told = refl
+sum_told notes place (one ∷ taken) told =
+    ap (λ (o : Option ℕ). unwrap_or o one.count + chunks_answered (notes ++ Told told ∷ []) (suc place) taken) (first_told place notes told)
+    ∙ ap (λ (n : ℕ). unwrap_or (first_answer place notes) one.count + n) (sum_told notes (suc place) taken told)
+
+pub sums_told : (notes : List ActNote) (taken : List Taken) (told : RawAnswer) → flush_sums (notes ++ Told told ∷ []) taken ≡ flush_sums notes taken
+sums_told [] taken told = refl
+sums_told (Requested ∷ notes) taken told =
+    ap (λ (n : ℕ). n ∷ flush_sums (notes ++ Told told ∷ []) taken) (sum_told notes 0 taken told)
+    ∙ ap (λ (ns : List ℕ). chunks_answered notes 0 taken ∷ ns) (sums_told notes taken told)
+sums_told (Answered place chunks ∷ notes) taken told = sums_told notes taken told
+sums_told (Told answer ∷ notes) taken told = sums_told notes taken told
+
+pub answered_told : (place : ℕ) (notes : List ActNote) (told : RawAnswer) → answered_by place (notes ++ Told told ∷ []) ≡ answered_by place notes
+answered_told place [] told = refl
+answered_told place (Requested ∷ notes) told =
+    ap (λ (o : Option ℕ). cond (is_some o) (suc (answered_by place (notes ++ Told told ∷ []))) (answered_by place (notes ++ Told told ∷ []))) (first_told place notes told)
+    ∙ ap (λ (n : ℕ). cond (is_some (first_answer place notes)) (suc n) n) (answered_told place notes told)
+answered_told place (Answered other chunks ∷ notes) told = answered_told place notes told
+answered_told place (Told answer ∷ notes) told = answered_told place notes told
 
 -- ---- an answer
 
@@ -80,10 +123,11 @@ abbrev pub answer_behind : Option ℕ → Bool → ℕ → Option ℕ
 answer_behind None same chunks = cond same (Some chunks) None
 answer_behind (Some first) same chunks = Some first
 
-pub first_behind : (place asker chunks : ℕ) (notes : List FlushNote)
+pub first_behind : (place asker chunks : ℕ) (notes : List ActNote)
     → first_answer place (notes ++ Answered asker chunks ∷ []) ≡ answer_behind (first_answer place notes) (asker == place) chunks
 first_behind place asker chunks [] = refl
 first_behind place asker chunks (Requested ∷ notes) = first_behind place asker chunks notes
+first_behind place asker chunks (Told answer ∷ notes) = first_behind place asker chunks notes
 first_behind place asker chunks (Answered other count ∷ notes) = by_test (other == place) (first_behind place asker chunks notes)
   where
     by_test : (b : Bool) → first_answer place (notes ++ Answered asker chunks ∷ []) ≡ answer_behind (first_answer place notes) (asker == place) chunks
@@ -101,14 +145,14 @@ own_adds None chunks = sym (zero-add chunks)
 own_adds (Some one) chunks = sym (add-zero one)
 
 -- the first answer of another writer
-pub first_other : (place asker chunks : ℕ) (notes : List FlushNote) → asker ≢ place → first_answer place (notes ++ Answered asker chunks ∷ []) ≡ first_answer place notes
+pub first_other : (place asker chunks : ℕ) (notes : List ActNote) → asker ≢ place → first_answer place (notes ++ Answered asker chunks ∷ []) ≡ first_answer place notes
 first_other place asker chunks notes apart =
     first_behind place asker chunks notes
     ∙ ap (λ (b : Bool). answer_behind (first_answer place notes) b chunks) (ne_eqb asker place apart)
     ∙ other_stays (first_answer place notes) chunks
 
 -- the sum over writers behind this one
-sum_other : (asker chunks : ℕ) (notes : List FlushNote) (place writers : ℕ) → asker < place
+sum_other : (asker chunks : ℕ) (notes : List ActNote) (place writers : ℕ) → asker < place
     → chunks_answered (notes ++ Answered asker chunks ∷ []) place (nobody writers) ≡ chunks_answered notes place (nobody writers)
 sum_other asker chunks notes place zero behind = refl
 sum_other asker chunks notes place (suc writers) behind =
@@ -116,7 +160,7 @@ sum_other asker chunks notes place (suc writers) behind =
     (first_other place asker chunks notes (λ same. omega (arith, behind, same)))
     ∙ ap (λ (n : ℕ). unwrap_or (first_answer place notes) 0 + n) (sum_other asker chunks notes (suc place) writers (omega (arith, behind)))
 
-sum_answer : (asker chunks : ℕ) (notes : List FlushNote) (place writers : ℕ) → place ≤ asker → asker < place + writers
+sum_answer : (asker chunks : ℕ) (notes : List ActNote) (place writers : ℕ) → place ≤ asker → asker < place + writers
     → chunks_answered (notes ++ Answered asker chunks ∷ []) place (nobody writers) ≡ chunks_answered notes place (nobody writers) + extra (first_answer asker notes) chunks
 sum_answer asker chunks notes place zero least below = absurd (omega (arith, least, below))
 sum_answer asker chunks notes place (suc writers) least below =
@@ -141,8 +185,9 @@ sum_answer asker chunks notes place (suc writers) least below =
         omega (arith, head, tail)
 
 -- a writer that gave no answer has answered no request
-none_answered : (place : ℕ) (notes : List FlushNote) → first_answer place notes ≡ None → answered_by place notes ≡ 0
+none_answered : (place : ℕ) (notes : List ActNote) → first_answer place notes ≡ None → answered_by place notes ≡ 0
 none_answered place [] none = refl
+none_answered place (Told answer ∷ notes) none = none_answered place notes none
 none_answered place (Requested ∷ notes) none =
     ap (λ (o : Option ℕ). cond (is_some o) (suc (answered_by place notes)) (answered_by place notes)) none ∙ none_answered place notes none
 none_answered place (Answered other chunks ∷ notes) none = by_test (other == place) none (none_answered place notes)
@@ -152,10 +197,11 @@ none_answered place (Answered other chunks ∷ notes) none = by_test (other == p
     by_test false is rest = rest is
 
 -- An answer adds its chunks to the sums of all requests that the writer hadn't answered.
-pub sums_answer : (asker chunks : ℕ) (notes : List FlushNote) (writers : ℕ) → asker < writers
+pub sums_answer : (asker chunks : ℕ) (notes : List ActNote) (writers : ℕ) → asker < writers
     → flush_sums (notes ++ Answered asker chunks ∷ []) (nobody writers) ≡ raised_from (answered_by asker notes) chunks (flush_sums notes (nobody writers))
 sums_answer asker chunks [] writers below = refl
 sums_answer asker chunks (Answered place count ∷ notes) writers below = sums_answer asker chunks notes writers below
+sums_answer asker chunks (Told answer ∷ notes) writers below = sums_answer asker chunks notes writers below
 sums_answer asker chunks (Requested ∷ notes) writers below =
     ap (λ (n : ℕ). n ∷ flush_sums (notes ++ Answered asker chunks ∷ []) (nobody writers)) (sum_answer asker chunks notes 0 writers (omega arith) (omega (arith, below)))
     ∙ ap (λ (ns : List ℕ). (head + extra (first_answer asker notes) chunks) ∷ ns) (sums_answer asker chunks notes writers below)
@@ -182,9 +228,10 @@ sums_answer asker chunks (Requested ∷ notes) writers below =
         ∙ ap (λ (n : ℕ). raised_from n chunks (chunks_answered notes 0 (nobody writers) ∷ flush_sums notes (nobody writers))) (sym all)
 
 -- behind its answer the writer has answered all
-pub answered_own : (asker chunks : ℕ) (notes : List FlushNote) (taken : List Taken) → answered_by asker (notes ++ Answered asker chunks ∷ []) ≡ length (flush_sums notes taken)
+pub answered_own : (asker chunks : ℕ) (notes : List ActNote) (taken : List Taken) → answered_by asker (notes ++ Answered asker chunks ∷ []) ≡ length (flush_sums notes taken)
 answered_own asker chunks [] taken = refl
 answered_own asker chunks (Answered place count ∷ notes) taken = answered_own asker chunks notes taken
+answered_own asker chunks (Told answer ∷ notes) taken = answered_own asker chunks notes taken
 answered_own asker chunks (Requested ∷ notes) taken =
     ap (λ (b : Bool). cond b (suc (answered_by asker (notes ++ Answered asker chunks ∷ []))) (answered_by asker (notes ++ Answered asker chunks ∷ []))) has
     ∙ ap suc (answered_own asker chunks notes taken)
@@ -198,18 +245,20 @@ answered_own asker chunks (Requested ∷ notes) taken =
         ∙ some (first_answer asker notes)
 
 -- and each other one as many as before
-pub answered_other : (place asker chunks : ℕ) (notes : List FlushNote) → asker ≢ place → answered_by place (notes ++ Answered asker chunks ∷ []) ≡ answered_by place notes
+pub answered_other : (place asker chunks : ℕ) (notes : List ActNote) → asker ≢ place → answered_by place (notes ++ Answered asker chunks ∷ []) ≡ answered_by place notes
 answered_other place asker chunks [] apart = refl
 answered_other place asker chunks (Answered other count ∷ notes) apart = answered_other place asker chunks notes apart
+answered_other place asker chunks (Told answer ∷ notes) apart = answered_other place asker chunks notes apart
 answered_other place asker chunks (Requested ∷ notes) apart =
     ap (λ (o : Option ℕ). cond (is_some o) (suc (answered_by place (notes ++ Answered asker chunks ∷ []))) (answered_by place (notes ++ Answered asker chunks ∷ [])))
     (first_other place asker chunks notes apart)
     ∙ ap (λ (n : ℕ). cond (is_some (first_answer place notes)) (suc n) n) (answered_other place asker chunks notes apart)
 
 -- no more requests are answered than were made
-pub answered_most : (place : ℕ) (notes : List FlushNote) (taken : List Taken) → answered_by place notes ≤ length (flush_sums notes taken)
+pub answered_most : (place : ℕ) (notes : List ActNote) (taken : List Taken) → answered_by place notes ≤ length (flush_sums notes taken)
 answered_most place [] taken = omega arith
 answered_most place (Answered other chunks ∷ notes) taken = answered_most place notes taken
+answered_most place (Told answer ∷ notes) taken = answered_most place notes taken
 answered_most place (Requested ∷ notes) taken = by_test (is_some (first_answer place notes)) (answered_most place notes taken)
   where
     by_test : (b : Bool) → answered_by place notes ≤ length (flush_sums notes taken)
@@ -219,23 +268,24 @@ answered_most place (Requested ∷ notes) taken = by_test (is_some (first_answer
 
 -- ---- how large a sum can be
 
-first_small : (writers place : ℕ) (notes : List FlushNote) → AreAnswers writers notes → unwrap_or (first_answer place notes) 0 < 2 ^ 32
+first_small : (writers place : ℕ) (notes : List ActNote) → AreAnswers writers notes → unwrap_or (first_answer place notes) 0 < 2 ^ 32
 first_small writers place [] fit = omega arith
 first_small writers place (Requested ∷ notes) fit = first_small writers place notes fit
+first_small writers place (Told answer ∷ notes) fit = first_small writers place notes fit
 first_small writers place (Answered other chunks ∷ notes) fit = by_test (other == place) (first_small writers place notes fit.2)
   where
     by_test : (b : Bool) → unwrap_or (first_answer place notes) 0 < 2 ^ 32 → unwrap_or (cond b (Some chunks) (first_answer place notes)) 0 < 2 ^ 32
     by_test true rest = fit.1
     by_test false rest = rest
 
-sum_small : (writers place count : ℕ) (notes : List FlushNote) → AreAnswers writers notes → chunks_answered notes place (nobody count) ≤ count * 2 ^ 32
+sum_small : (writers place count : ℕ) (notes : List ActNote) → AreAnswers writers notes → chunks_answered notes place (nobody count) ≤ count * 2 ^ 32
 sum_small writers place zero notes fit = omega arith
 sum_small writers place (suc count) notes fit =
     let head = first_small writers place notes fit in
     let rest = sum_small writers (suc place) count notes fit in
     omega (arith, head, rest)
 
-pub sums_small : (writers k : ℕ) (notes : List FlushNote) → AreAnswers writers notes → get_or (flush_sums notes (nobody writers)) k 0 ≤ writers * 2 ^ 32
+pub sums_small : (writers k : ℕ) (notes : List ActNote) → AreAnswers writers notes → get_or (flush_sums notes (nobody writers)) k 0 ≤ writers * 2 ^ 32
 sums_small writers k [] fit = let zero_is : get_or {A = ℕ} [] k 0 ≡ 0 = none_there k in omega (arith, zero_is)
   where
     none_there : (k : ℕ) → get_or {A = ℕ} [] k 0 ≡ 0
@@ -244,6 +294,7 @@ sums_small writers k [] fit = let zero_is : get_or {A = ℕ} [] k 0 ≡ 0 = none
 sums_small writers zero (Requested ∷ notes) fit = sum_small writers 0 writers notes fit
 sums_small writers (suc k) (Requested ∷ notes) fit = sums_small writers k notes fit
 sums_small writers k (Answered place chunks ∷ notes) fit = sums_small writers k notes fit.2
+sums_small writers k (Told answer ∷ notes) fit = sums_small writers k notes fit
 
 -- ---- the loop of an answer
 

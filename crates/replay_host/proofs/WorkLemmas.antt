@@ -17,11 +17,11 @@ use Rattle.service_core.specs.Taking.{Takes, places_of}
 use Rattle.service_core.specs.Told.{LeavesNone}
 use Rattle.replay_model.specs.Does as acts
 use Rattle.replay_model.specs.Does.{LeavesRest, GoesRound, HasNoFreeChunk, MayNeedChunk, IsVainIn, IsOut, policy_of, asks_for, HoldsNoneAt, AreOpen, Collects}
+use Rattle.replay_model.proofs.ShutLemmas.{open_is}
 use Rattle.replay_host.specs.declared.helper.Collecting.{Collecting}
 use Rattle.replay_host.specs.Asking.{begins_one}
 use Rattle.replay_host.specs.Helping.{Helps, Collected}
 use Rattle.trace_writer.proofs.claims.KeepingClaims.{chunks_kept, chunks_more}
-use Rattle.replay_host.proofs.TakenLemmas.{open_is}
 use Rattle.service_core.proofs.AnswerLemmas.{takes_something}
 use Rattle.replay_host.proofs.RowLemmas.{AreLaws, AllSit, AsksMore, row_is, sit_after, sit_helped, own_step}
 
@@ -70,7 +70,7 @@ collects_world {T} {W} {S} means laws helper helped asking freed producer answer
   record {
     opened = subst (λ (v : ServiceView). AreOpen (means.setup asking) producer v) view_was
         (subst (λ (p : ℕ). AreOpen (means.setup asking) p (means.service_view asking helper.service.seat)) (sym at)
-        (open_is (means.setup asking) (means.service_view asking helper.service.seat) helper.service helper.producer helps.may.served.agrees helps.may.served.own helps.may.opened));
+        (open_is (means.setup asking) (means.service_view asking helper.service.seat) helper.service helper.producer helps.may.served.agrees helps.may.opened));
     writers = told.stands.writers;
     taken = some.0;
     takes = subst (λ (v : ServiceView). Takes (means.setup asking) (places_of producer 0 (means.setup asking).writers) some.0 v told.new.service) view_was

@@ -11,7 +11,7 @@ use Rattle.chunk_plain.specs.Meaning.{Meaning}
 use Rattle.trace_writer.specs.declared.writer.WriterCore.{WriterCore}
 use Rattle.service_core.specs.Agreement.{first_of}
 use Rattle.replay_model.specs.Acts.{Act, Answer, Request}
-use Rattle.replay_model.specs.Flushes.{FlushNote, Requested, Answered}
+use Rattle.replay_model.specs.ActNotes.{ActNote, Requested, Answered}
 use Rattle.replay_model.specs.Schedule.{open_places}
 use Rattle.replay_host.specs.declared.host.Host.{Host}
 use Rattle.replay_host.specs.Asking.{AreReady}
@@ -19,8 +19,8 @@ use Rattle.replay_host.specs.Lines.{IsGoing, is_open_at}
 use Rattle.replay_host.specs.Playing.{IsHost, HasDone}
 use Rattle.replay_host.specs.Tally.{IsTally}
 
--- what goes on is as before: each writer has noted what lines asked of it, and accepts what it did; the same producers count as open, and
--- the session has as many requests
+-- what goes on is as before: each writer has noted what lines asked of it, and accepts what it did; the same producers count as open, the
+-- session has as many requests, and no commit was answered
 pub record KeepsGoing {T W S : Type 0} (means : Meaning T W S) (old new : Host T W S) : Type 0 where
   pub setup_is : means.setup new.table ≡ means.setup old.table
   pub first : first_of (means.setup old.table) new.helper.service ≡ first_of (means.setup old.table) old.helper.service
@@ -33,6 +33,7 @@ pub record KeepsGoing {T W S : Type 0} (means : Meaning T W S) (old new : Host T
       → AreReady means new.table new.writers.items coming
   pub made : new.flushes.made ≡ old.flushes.made
   pub room : vec_len new.flushes.chunks ≡ vec_len old.flushes.chunks
+  pub told : new.flushes.answers ≡ old.flushes.answers
   pub state : new.helper.service.session.state ≡ old.helper.service.session.state
   pub requests : new.helper.service.session.requests ≡ old.helper.service.session.requests
 
@@ -41,7 +42,7 @@ pub record IsAmid {T W S : Type 0} (means : Meaning T W S) (host : Host T W S) :
   pub scenario : Parts
   pub before : List NumberedLine
   pub rest : List NumberedLine
-  pub notes : List FlushNote
+  pub notes : List ActNote
   pub going : IsGoing means scenario before rest notes host
 
 -- and the writer at this place, whose producer is open, may be asked to answer
@@ -50,11 +51,11 @@ pub record MayAnswer {T W S : Type 0} (means : Meaning T W S) (place : ℕ) (hos
   pub below : place < length amid.scenario.writers
   pub opened : is_open_at amid.scenario amid.before place ≡ true
 
--- these acts were done, with these notes on flush requests, and what goes on is as before
-pub record GoesOn {T W S : Type 0} (means : Meaning T W S) (acts : List Act) (later : List FlushNote) (old new : Host T W S) : Type 0 where
+-- these acts were done, with these notes, and what goes on is as before
+pub record GoesOn {T W S : Type 0} (means : Meaning T W S) (acts : List Act) (later : List ActNote) (old new : Host T W S) : Type 0 where
   pub host : IsHost means new
   pub keeps : KeepsGoing means old new
-  pub tally : (notes : List FlushNote) (writers : ℕ) → IsTally notes writers old.flushes → IsTally (notes ++ later) writers new.flushes
+  pub tally : (notes : List ActNote) (writers : ℕ) → IsTally notes writers old.flushes → IsTally (notes ++ later) writers new.flushes
   pub done : (taken : Intake) → HasDone means acts later old taken new taken
 
 -- the writer at this place answered all requests so far, with so many chunks completed
@@ -65,7 +66,7 @@ pub record HasAnswered {T W S : Type 0} (means : Meaning T W S) (place : ℕ) (o
 
 -- or it didn't, where a packet of it is begun
 pub record HasAnsweredBetween {T W S : Type 0} (means : Meaning T W S) (place : ℕ) (old new : Host T W S) : Type 0 where
-  pub later : List FlushNote
+  pub later : List ActNote
   pub goes : GoesOn means (Answer place ∷ []) later old new
   pub answered : (core : WriterCore W) → slice_get old.writers.items place ≡ Some core
       → new.flushes.answered.items ≡ (if is_writing (packets_of (means.view old.table core.seat).calls) then old.flushes.answered.items
@@ -75,7 +76,7 @@ pub record HasAnsweredBetween {T W S : Type 0} (means : Meaning T W S) (place : 
 -- a packet begun.
 pub record HaveAnswered {T W S : Type 0} (means : Meaning T W S) (scenario : Parts) (before : List NumberedLine)
     (old new : Host T W S) : Type 0 where
-  pub later : List FlushNote
+  pub later : List ActNote
   pub goes : GoesOn means (map Answer (open_places before 0 scenario.writers)) later old new
   pub answered : (place : ℕ) → place < length scenario.writers → is_open_at scenario before place ≡ true
       → slice_index new.flushes.answered.items place
@@ -87,7 +88,7 @@ pub record HaveAnsweredTo {T W S : Type 0} (means : Meaning T W S) (scenario : P
     (old new : Host T W S) : Type 0 where
   pub acts : List Act
   pub rest : map Answer (open_places before 0 scenario.writers) ≡ acts ++ map Answer (open_places before end (drop end scenario.writers))
-  pub later : List FlushNote
+  pub later : List ActNote
   pub goes : GoesOn means acts later old new
   pub answered : (place : ℕ) → place < end → is_open_at scenario before place ≡ true
       → slice_index new.flushes.answered.items place
@@ -102,10 +103,11 @@ pub record HasRequested {T W S : Type 0} (means : Meaning T W S) (old new : Host
   pub writers : new.writers ≡ old.writers
   pub opened : new.open_producers ≡ old.open_producers
   pub first : first_of (means.setup old.table) new.helper.service ≡ first_of (means.setup old.table) old.helper.service
-  pub tally : (notes : List FlushNote) (writers : ℕ) → IsTally notes writers old.flushes
+  pub tally : (notes : List ActNote) (writers : ℕ) → IsTally notes writers old.flushes
       → IsTally (notes ++ Requested ∷ []) writers new.flushes
   pub made : new.flushes.made ≡ old.flushes.made + 1
   pub room : vec_len new.flushes.chunks ≡ vec_len old.flushes.chunks
+  pub told : new.flushes.answers ≡ old.flushes.answers
   pub answered : new.flushes.answered ≡ old.flushes.answered
   pub state : new.helper.service.session.state ≡ old.helper.service.session.state
   pub requests : new.helper.service.session.requests ≡ old.helper.service.session.requests + 1

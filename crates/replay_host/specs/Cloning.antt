@@ -3,7 +3,6 @@ use Rattle.std.specs.Prelude.{◌≡◌, ℕ, ◌-◌, List, map, Some}
 use Rattle.byte_io.specs.Bytes.{Intake}
 use Rattle.trace_model.specs.Buffers.{Buffer}
 use Rattle.trace_model.specs.History.{buffers_after}
-use Rattle.trace_model.specs.Sequences.{Sequence}
 use Rattle.trace_buffer.specs.Clones.{made_from, cloned}
 use Rattle.scenario_text.specs.declared.scenario.NumberedLine.{NumberedLine}
 use Rattle.scenario_text.specs.Clones.{clones_in}
@@ -12,7 +11,7 @@ use Rattle.chunk_plain.specs.Histories.{history_of}
 use Rattle.chunk_plain.specs.Meaning.{Meaning}
 use Rattle.chunk_plain.specs.World.{World}
 use Rattle.loss_report.specs.declared.counts.Done.{Done}
-use Rattle.loss_report.specs.Report.{report_text}
+use Rattle.loss_report.specs.Raws.{done_text}
 use Rattle.service_core.specs.Agreement.{first_of}
 use Rattle.service_core.specs.Routing.{buffer_at}
 use Rattle.replay_model.specs.Clones.{MakeClones, ReplaysCloning}
@@ -40,7 +39,6 @@ HaveCloned means scenario before lines old new clones =
     (was : World) → means.told old.table ≡ Some was → (is : World) × (means.told new.table ≡ Some is)
     × MakeClones scenario (means.setup old.table) before lines was is clones
 
--- the scenario was replayed with these clones, and these are the counts of its report
+-- the scenario was replayed with these clones, and this is what its report says
 abbrev pub HasReplayedCloning : Parts → (old new : Intake) → Done → List Buffer → Type 0
-HasReplayedCloning scenario old new done clones =
-    ReplaysCloning scenario old new (report_text done.buffers.items done.sequences.items done.flushes.items) clones
+HasReplayedCloning scenario old new done clones = ReplaysCloning scenario old new (done_text done) clones

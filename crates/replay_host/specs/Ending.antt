@@ -6,7 +6,7 @@ use Rattle.trace_model.specs.Counts.{last_count}
 use Rattle.scenario_text.specs.Scenario.{Parts}
 use Rattle.chunk_plain.specs.Meaning.{Meaning}
 use Rattle.replay_model.specs.Acts.{Act, Ask, ReadAll}
-use Rattle.replay_model.specs.Flushes.{FlushNote}
+use Rattle.replay_model.specs.ActNotes.{ActNote}
 use Rattle.replay_model.specs.Schedule.{open_places}
 use Rattle.replay_host.specs.declared.host.Host.{Host}
 use Rattle.replay_host.specs.Asking.{AreReady}
@@ -16,10 +16,10 @@ use Rattle.replay_host.specs.Playing.{IsHost, HasDone}
 -- all lines of a scenario are played
 pub record IsOver {T W S : Type 0} (means : Meaning T W S) (host : Host T W S) : Type 0 where
   pub scenario : Parts
-  pub notes : List FlushNote
+  pub notes : List ActNote
   pub going : IsGoing means scenario scenario.lines [] notes host
 
--- acts were done that leave the flags and what is kept of flush requests
+-- acts were done that leave the flags and what is kept of flush requests and commits
 pub record HaveFlushed {T W S : Type 0} (means : Meaning T W S) (acts : List Act) (old new : Host T W S) : Type 0 where
   pub host : IsHost means new
   pub opened : new.open_producers ≡ old.open_producers
@@ -44,7 +44,7 @@ abbrev pub reads_to : (count : ℕ) → List Act
 reads_to zero = []
 reads_to (suc count) = reads_to count ++ ReadAll (suc count) last_count ∷ []
 
--- these acts were done, and what is kept of flush requests is as before
+-- these acts were done, and what is kept of flush requests and commits is as before
 pub record HasEnded {T W S : Type 0} (means : Meaning T W S) (acts : List Act) (old : Host T W S) (taken : Intake) (new : Host T W S) (left : Intake) : Type 0 where
   pub host : IsHost means new
   pub flushes : new.flushes ≡ old.flushes

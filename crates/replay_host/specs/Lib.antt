@@ -8,6 +8,7 @@ pub mod Helping
 pub mod Lines
 pub mod Making
 pub mod Playing
+pub mod Raws
 pub mod Replaying
 pub mod Serving
 pub mod Standing

@@ -1,5 +1,5 @@
 -- What plays a scenario, between two of its lines.
-use Rattle.std.specs.Prelude.{◌≡◌, ℕ, suc, ◌+◌, ◌-◌, ◌<◌, ◌≤◌, nat_lt, Bool, true, false, not, ◌&&◌, List, [], ◌∷◌, ◌++◌, length, Some, slice_get, slice_index, slice_index_or, vec_len, if◌then◌else◌}
+use Rattle.std.specs.Prelude.{◌≡◌, ℕ, suc, ◌+◌, ◌-◌, ◌<◌, ◌≤◌, nat_lt, Bool, true, false, not, ◌&&◌, List, [], ◌∷◌, ◌++◌, length, Some, slice_get, slice_index, slice_index_or, vec_len, vec_capacity, if◌then◌else◌}
 use Rattle.byte_io.specs.Bytes.{Intake}
 use Rattle.trace_base.specs.declared.limits.TheConstants.{MAX_PRODUCERS}
 use Rattle.trace_model.specs.Calls.{Call, Flushed}
@@ -13,12 +13,14 @@ use Rattle.scenario_text.specs.Reach.{IsInReach}
 use Rattle.chunk_plain.specs.Meaning.{Meaning}
 use Rattle.trace_writer.specs.declared.writer.WriterCore.{WriterCore}
 use Rattle.service_core.specs.Agreement.{first_of, spec_at}
-use Rattle.replay_model.specs.Flushes.{FlushNote, requests_in}
+use Rattle.replay_model.specs.ActNotes.{ActNote}
+use Rattle.replay_model.specs.Flushes.{requests_in}
 use Rattle.replay_model.specs.Played.{IsSetupOf, buffers_of}
 use Rattle.replay_model.specs.Schedule.{is_due, acts_of}
 use Rattle.replay_host.specs.declared.host.Host.{Host}
 use Rattle.replay_host.specs.Asking.{AreReady}
 use Rattle.replay_host.specs.Playing.{IsHost, HasDone}
+use Rattle.replay_host.specs.Raws.{raws_in}
 use Rattle.replay_host.specs.Tally.{IsTally}
 
 -- a request's number has 32 bits
@@ -37,9 +39,9 @@ last_flush open_then = if open_then then Flushed ∷ [] else []
 abbrev pub coming_at : Parts → (rest : List NumberedLine) → (place : ℕ) → List Call
 coming_at scenario rest place = calls_asked (suc place) rest ++ last_flush (is_open_at scenario scenario.lines place)
 
--- Behind these lines, with these notes on flush requests: the set-up is the scenario's, the producers that count as open are those that no
--- line has closed, and what is kept of flush requests is what the notes say.
-pub record IsKept {T W S : Type 0} (means : Meaning T W S) (scenario : Parts) (before : List NumberedLine) (notes : List FlushNote) (host : Host T W S) : Type 0
+-- Behind these lines, with these notes: the set-up is the scenario's, the producers that count as open are those that no line has closed,
+-- and what is kept of flush requests and commits is what the notes say.
+pub record IsKept {T W S : Type 0} (means : Meaning T W S) (scenario : Parts) (before : List NumberedLine) (notes : List ActNote) (host : Host T W S) : Type 0
   where
     pub is_host : IsHost means host
     pub laid : IsSetupOf scenario (means.setup host.table)
@@ -50,8 +52,8 @@ pub record IsKept {T W S : Type 0} (means : Meaning T W S) (scenario : Parts) (b
     pub tally : IsTally notes (length scenario.writers) host.flushes
 
 -- The other lines are still to come: each writer has noted what the lines asked of it, and accepts what is to come, and there is room for
--- the flush requests to come.
-pub record IsGoing {T W S : Type 0} (means : Meaning T W S) (scenario : Parts) (before rest : List NumberedLine) (notes : List FlushNote) (host : Host T W S) : Type 0
+-- the flush requests to come, and for the answers to the commits.
+pub record IsGoing {T W S : Type 0} (means : Meaning T W S) (scenario : Parts) (before rest : List NumberedLine) (notes : List ActNote) (host : Host T W S) : Type 0
   where
     pub kept : IsKept means scenario before notes host
     pub wrote : (place : ℕ) (core : WriterCore W) → slice_get host.writers.items place ≡ Some core
@@ -59,6 +61,7 @@ pub record IsGoing {T W S : Type 0} (means : Meaning T W S) (scenario : Parts) (
     pub ready : AreReady means host.table host.writers.items (coming_at scenario rest)
     pub room : host.flushes.made + requests_in rest ≡ vec_len host.flushes.chunks
     pub few : vec_len host.flushes.chunks < MOST_REQUESTS
+    pub told_room : vec_len host.flushes.answers + raws_in rest ≤ vec_capacity host.flushes.answers
     pub started : host.helper.service.session.state ≡ Started
     pub requests : host.helper.service.session.requests ≡ host.flushes.made
 
@@ -68,20 +71,20 @@ IsDueAt scenario before place host = nat_lt (slice_index host.flushes.answered.i
     ≡ (is_writing (packets_of (calls_asked (suc place) before)) && is_due (suc place) before)
 
 -- And so has each writer of an open producer: that is how things are between two lines.
-pub record IsAt {T W S : Type 0} (means : Meaning T W S) (scenario : Parts) (before rest : List NumberedLine) (notes : List FlushNote) (host : Host T W S) : Type 0
+pub record IsAt {T W S : Type 0} (means : Meaning T W S) (scenario : Parts) (before rest : List NumberedLine) (notes : List ActNote) (host : Host T W S) : Type 0
   where
     pub going : IsGoing means scenario before rest notes host
     pub due : (place : ℕ) → place < length scenario.writers → is_open_at scenario before place ≡ true → IsDueAt scenario before place host
 
 -- ---- one line
 
--- where a line stands in its scenario, and what was noted of flush requests before it
+-- where a line stands in its scenario, and what was noted before it
 pub record Moment : Type 0 where
   pub scenario : Parts
   pub before : List NumberedLine
   pub line : NumberedLine
   pub rest : List NumberedLine
-  pub notes : List FlushNote
+  pub notes : List ActNote
 
 -- the line comes next, and what it names is there
 pub record ComesNext {T W S : Type 0} (means : Meaning T W S) (moment : Moment) (host : Host T W S) : Type 0 where
@@ -91,6 +94,6 @@ pub record ComesNext {T W S : Type 0} (means : Meaning T W S) (moment : Moment) 
 -- the line was played: what comes next is as it should be, and the line's acts were done
 pub record IsLinePlayed {T W S : Type 0} (means : Meaning T W S) (moment : Moment) (old : Host T W S) (taken : Intake) (new : Host T W S) (left : Intake) : Type 0
   where
-    pub later : List FlushNote
+    pub later : List ActNote
     pub at : IsAt means moment.scenario (moment.before ++ moment.line ∷ []) moment.rest (moment.notes ++ later) new
     pub done : HasDone means (acts_of moment.scenario moment.before moment.line.what) later old taken new left

@@ -14,7 +14,7 @@ use Rattle.chunk_plain.specs.World.{World}
 use Rattle.trace_writer.specs.declared.writer.WriterCore.{WriterCore}
 use Rattle.service_core.specs.Agreement.{IsOpen, first_of}
 use Rattle.replay_model.specs.Acts.{Act, asks}
-use Rattle.replay_model.specs.Flushes.{FlushNote}
+use Rattle.replay_model.specs.ActNotes.{ActNote}
 use Rattle.replay_model.specs.Plays.{Plays}
 use Rattle.replay_host.specs.declared.host.Host.{Host}
 use Rattle.replay_host.specs.Asking.{AreReady, KeepsService}
@@ -38,13 +38,13 @@ IsOpenAt means host place = slice_index_or host.open_producers.items (producer_o
 abbrev pub asked_all : (place : ℕ) → List Call → (ℕ → List Call) → ℕ → List Call
 asked_all place calls coming other = if other == place then calls ++ coming other else coming other
 
--- In the worlds that are told, the acts lead from the one table's to the other's, with these notes on flush requests.
-abbrev pub HasPlayed : {T W S : Type 0} → Meaning T W S → List Buffer → List Act → T → T → List FlushNote → Type 0
+-- In the worlds that are told, the acts lead from the one table's to the other's, with these notes.
+abbrev pub HasPlayed : {T W S : Type 0} → Meaning T W S → List Buffer → List Act → T → T → List ActNote → Type 0
 HasPlayed means buffers acts old new notes =
     (was : World) → means.told old ≡ Some was → (is : World) × (means.told new ≡ Some is)
     × Plays (means.setup old) buffers acts was is notes
 
--- what is kept of the set-up and of flush requests is as before
+-- what is kept of the set-up, of flush requests and of commits is as before
 pub record KeepsBooks {T W S : Type 0} (old new : Host T W S) : Type 0 where
   pub flushes : new.flushes ≡ old.flushes
   pub specs : new.specs ≡ old.specs
@@ -73,9 +73,8 @@ pub record HasAsked {T W S : Type 0} (means : Meaning T W S) (place : ℕ) (call
 abbrev pub IsTraceOf : (start : Intake) → List Buffer → ServiceView → Intake → Type 0
 IsTraceOf start buffers view taken = taken ≡ after_told start (trace_of (records_after buffers (history_of view)))
 
--- The acts were done: the worlds that are told say so, with these notes on flush requests, and the sink has taken the trace still, where it
--- had.
-pub record HasDone {T W S : Type 0} (means : Meaning T W S) (acts : List Act) (notes : List FlushNote) (old : Host T W S) (taken : Intake) (new : Host T W S) (left : Intake) : Type 0
+-- The acts were done: the worlds that are told say so, with these notes, and the sink has taken the trace still, where it had.
+pub record HasDone {T W S : Type 0} (means : Meaning T W S) (acts : List Act) (notes : List ActNote) (old : Host T W S) (taken : Intake) (new : Host T W S) (left : Intake) : Type 0
   where
     pub setup_is : means.setup new.table ≡ means.setup old.table
     pub first : first_of (means.setup old.table) new.helper.service ≡ first_of (means.setup old.table) old.helper.service

@@ -6,7 +6,7 @@ use Rattle.scenario_text.specs.Scenario.{Parts}
 use Rattle.scenario_text.specs.Accepted.{closes}
 use Rattle.chunk_plain.specs.Meaning.{Meaning}
 use Rattle.replay_model.specs.Acts.{Act, Collect, CloseProducer}
-use Rattle.replay_model.specs.Flushes.{FlushNote}
+use Rattle.replay_model.specs.ActNotes.{ActNote}
 use Rattle.replay_model.specs.Schedule.{acts_of, open_producers}
 use Rattle.replay_host.specs.declared.host.Host.{Host}
 use Rattle.replay_host.specs.Asks.{AsksNothing}
@@ -20,7 +20,7 @@ pub record ComesServing {T W S : Type 0} (means : Meaning T W S) (moment : Momen
   pub acts_are : acts_of moment.scenario moment.before moment.line.what ≡ acts
   pub closes_none : (producer : ℕ) → closes producer moment.line.what ≡ false
 
--- the service did these acts: the writers, what is kept of flush requests, the session and the flags are as before
+-- the service did these acts: the writers, what is kept of flush requests and commits, the session and the flags are as before
 pub record HasServed {T W S : Type 0} (means : Meaning T W S) (acts : List Act) (old new : Host T W S) : Type 0 where
   pub host : IsHost means new
   pub writers : LeavesWriters means old new
@@ -32,7 +32,7 @@ pub record HasServed {T W S : Type 0} (means : Meaning T W S) (acts : List Act) 
 pub record HasFlags {T W S : Type 0} (means : Meaning T W S) (host : Host T W S) : Type 0 where
   pub scenario : Parts
   pub before : List NumberedLine
-  pub notes : List FlushNote
+  pub notes : List ActNote
   pub kept : IsKept means scenario before notes host
 
 -- the complete chunks of the open producers before this number were taken

@@ -1,8 +1,6 @@
 -- Writers, table and service between two acts: each has a seat of the table, and agrees with its view.
-use Rattle.std.specs.Prelude.{◌≡◌, ℕ, false, List, [], length, Some, slice_get}
-use Rattle.std.proofs.Common.{◌∙◌, ap}
+use Rattle.std.specs.Prelude.{◌≡◌, ℕ, false, List, length, Some, slice_get}
 use Rattle.chunk_plain.specs.Meaning.{Meaning}
-use Rattle.chunk_plain.specs.Views.{ServiceView}
 use Rattle.trace_writer.specs.declared.writer.WriterCore.{WriterCore}
 use Rattle.trace_writer.specs.Core.{CoreAgrees, is_stalled}
 use Rattle.service_core.specs.declared.service.ServiceCore.{ServiceCore}
@@ -25,15 +23,9 @@ pub record IsServed {T W S : Type 0} (means : Meaning T W S) (table : T) (servic
   pub serves : means.serves table service.seat
   pub agrees : ServiceAgrees (means.setup table) (means.service_view table service.seat) service
   pub reads : means.takes_reads table service.seat
-  -- no image came by a commit
-  pub own : (means.service_view table service.seat).commits ≡ []
 
 -- each writer of the table is there and has its seat, and so has the service
 pub record Stands {T W S : Type 0} (means : Meaning T W S) (table : T) (cores : List (WriterCore W)) (service : ServiceCore S) : Type 0 where
   pub many : length cores ≡ length (means.setup table).writers
   pub seated : AreSeated means table cores
   pub served : IsServed means table service
-
--- a view that is as before has as many commits
-pub own_still : (old new : ServiceView) → new ≡ old → old.commits ≡ [] → new.commits ≡ []
-own_still old new same none = ap (λ (v : ServiceView). v.commits) same ∙ none

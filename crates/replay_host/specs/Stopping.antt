@@ -20,7 +20,7 @@ use Rattle.service_core.specs.Reading.{reads_in, noted_read, FailsAmong}
 use Rattle.service_core.specs.Taking.{noted_more}
 use Rattle.replay_model.specs.Acts.{Act, Ask, ReadAll}
 use Rattle.replay_model.specs.Does.{MayNeedChunk, IsOut, Works, LeavesRest, GoesRound, Collects, Reads, policy_of}
-use Rattle.replay_model.specs.Flushes.{FlushNote}
+use Rattle.replay_model.specs.ActNotes.{ActNote}
 use Rattle.replay_model.specs.Plays.{Plays}
 use Rattle.replay_host.specs.declared.fault.HostFault.{HostFault}
 use Rattle.replay_host.specs.declared.fault.HostFault.TheVariants.{WriteFault, Stalled}
@@ -59,7 +59,7 @@ pub record StallsIn (setup : Setup) (place : ℕ) (call : Call) (old new : World
 
 -- The writer at this place stalled in a call, and the fault says so. It noted the call, or nothing where that was a packet's begin, and the
 -- other writers noted nothing. No record was written, the service is as before, but that it may have taken chunks for the writer, and what
--- is kept of the set-up and of flush requests is as before.
+-- is kept of the set-up, of flush requests and of commits is as before.
 pub record Stalls {T W S : Type 0} (means : Meaning T W S) (place : ℕ) (call : Call) (old new : Host T W S) (fault : HostFault) : Type 0 where
   pub fault_is : fault ≡ Stalled (suc place)
   pub may : MayNeedChunk call
@@ -122,7 +122,7 @@ pub record StopsAt (setup : Setup) (buffers : List Buffer) (acts : List Act) (fi
   pub act : Act
   pub rest : List Act
   pub cut : acts ≡ done ++ act ∷ rest
-  pub notes : List FlushNote
+  pub notes : List ActNote
   pub world : World
   pub plays : Plays setup buffers done first world notes
   pub records : List Delivered

@@ -1,11 +1,11 @@
 //! What became of chunks, packets and flush requests, once all is played.
-ghost use Rattle.std.specs.Prelude.{◌≡◌, ℕ, ◌<◌, ◌≤◌, List, [], ◌++◌, length, map, Some, IfOk, slice_get, vec_len};
+ghost use Rattle.std.specs.Prelude.{◌≡◌, ℕ, ◌<◌, ◌≤◌, false, List, [], ◌++◌, length, map, Some, IfOk, slice_get, slice_index_or, vec_len};
 ghost use Rattle.trace_base.specs.declared.limits.TheConstants.{MAX_BUFFERS};
 ghost use Rattle.trace_buffer.specs.Answers as answers;
 ghost use Rattle.chunk_plain.specs.Setup.{Setup};
 ghost use Rattle.chunk_plain.specs.Views.{ServiceView};
 ghost use Rattle.service_core.specs.Agreement.{IsAgreeing, ServiceAgrees};
-ghost use Rattle.replay_model.specs.Flushes.{FlushNote};
+ghost use Rattle.replay_model.specs.ActNotes.{ActNote};
 ghost use Rattle.replay_host.specs.Counting.{answers_to};
 ghost use Rattle.replay_host.specs.Counting as counting;
 ghost use Rattle.replay_host.specs.Tally.{IsTally};
@@ -42,16 +42,19 @@ const NO_PACKETS: SequenceCounts = SequenceCounts {
     cut: 0,
 };
 
-/// Room for the counts of so many buffers and of the sequences of so many writers.
+/// Room for the counts of so many buffers and of the sequences of so many writers, and none for the answers
+/// to lines `raw`.
 pub fn make_done(alloc: Global, buffers: usize, writers: usize) -> Result<Done, AllocError>
     ensures buffers { IfOk result (λ done. vec_len done.buffers ≡ buffers) }
     ensures sequences { IfOk result (λ done. vec_len done.sequences ≡ writers) }
     ensures flushes { IfOk result (λ done. done.flushes.items ≡ []) }
+    ensures raws { IfOk result (λ done. done.raws.items ≡ []) }
 {
     Ok(Done {
         buffers: vec![in alloc; NO_CHUNKS; buffers]?,
         sequences: vec![in alloc; NO_PACKETS; writers]?,
         flushes: Vec::new(alloc),
+        raws: Vec::new(alloc),
     })
 }
 
@@ -75,16 +78,37 @@ pub fn packets_left(begun: u64, at_begin: u64, state: &SequenceState) -> Sequenc
     }
 }
 
+/// What became of the packets of a sequence in whose name lines commit chunks: those that losses and reads
+/// counted, and no others were begun.
+pub(crate) fn packets_counted(state: &SequenceState) -> SequenceCounts
+    ensures { result ≡ counting.packets_counted state.now }
+{
+    SequenceCounts {
+        begun: state
+            .delivered
+            .saturating_add(state.dropped)
+            .saturating_add(state.overwritten)
+            .saturating_add(state.discarded)
+            .saturating_add(state.cut),
+        delivered: state.delivered,
+        dropped: state.dropped,
+        overwritten: state.overwritten,
+        discarded: state.discarded,
+        cut: state.cut,
+    }
+}
+
 /// Each writer answers the requests that it hadn't answered, with the chunks that were taken of it.
 fn answer_for_rest<S>(service: &ServiceCore<S>, writers: usize, flushes: &mut Flushes)
     requires agrees { IsAgreeing service.now }
     requires writers { writers ≡ length service.now.writers.items }
-    requires tally { (notes : List FlushNote) × IsTally notes writers flushes.old }
-    ensures tally { (notes : List FlushNote) (setup : Setup) (view : ServiceView) → IsTally notes writers flushes.old
+    requires tally { (notes : List ActNote) × IsTally notes writers flushes.old }
+    ensures tally { (notes : List ActNote) (setup : Setup) (view : ServiceView) → IsTally notes writers flushes.old
         → ServiceAgrees setup view service.now
         → IsTally (notes ++ answers_to view writers) writers flushes.new }
     ensures made { flushes.new.made ≡ flushes.old.made }
     ensures room { vec_len flushes.new.chunks ≡ vec_len flushes.old.chunks }
+    ensures told { flushes.new.answers ≡ flushes.old.answers }
 {
     for place in 0..writers {
         flushes.answer(place, service.taken(place as u16 + 1));
@@ -96,14 +120,18 @@ impl<W: Words> Host<W, W::Writer, W::Service> {
     ghost use Rattle.replay_host.specs.Counting.{buffers_now, packets_now, CountsAll};
     ghost use Rattle.replay_host.specs.Playing.{IsHost};
 
-    /// What became of the packets of the writer at this place.
-    fn sequence_counts(&self, place: usize) -> SequenceCounts
+    /// What became of the packets of the writer at this place, which is marked where lines commit chunks in
+    /// its name.
+    fn sequence_counts(&self, place: usize, marked: bool) -> SequenceCounts
         requires host { IsHost W.means self.now }
         requires place { place < length (W.means.setup self.now.table).writers }
         ensures { (core : WriterCore W.Writer) → slice_get self.now.writers.items place ≡ Some core
-            → result ≡ packets_now W.means self.now place (W.means.view self.now.table core.seat).calls }
+            → result ≡ packets_now W.means self.now place marked (W.means.view self.now.table core.seat).calls }
     {
         let state = self.helper.service.state(place as u32 + FIRST_SEQUENCE);
+        if marked {
+            return packets_counted(&state);
+        }
         let writer = &self.writers[place];
         packets_left(writer.begun(), writer.dropped_at_begin(), &state)
     }
@@ -120,33 +148,38 @@ impl<W: Words> Host<W, W::Writer, W::Service> {
         }
     }
 
-    /// What became of the packets of each writer.
-    fn count_sequences(&self, sequences: &mut [SequenceCounts])
+    /// What became of the packets of each writer, by the marks of those in whose names lines commit chunks.
+    fn count_sequences(&self, marks: &[bool], sequences: &mut [SequenceCounts])
         requires host { IsHost W.means self.now }
         requires room { length sequences.old ≡ length self.now.writers.items }
+        requires marks { length marks.now ≡ length self.now.writers.items }
         ensures room { length sequences.new ≡ length sequences.old }
         ensures each { (place : ℕ) (core : WriterCore W.Writer) → slice_get self.now.writers.items place ≡ Some core
-            → slice_get sequences.new place ≡ Some (packets_now W.means self.now place (W.means.view self.now.table core.seat).calls) }
+            → slice_get sequences.new place ≡ Some (packets_now W.means self.now place (slice_index_or marks.now place false)
+            (W.means.view self.now.table core.seat).calls) }
     {
         for place in 0..sequences.len() {
-            sequences[place] = self.sequence_counts(place);
+            sequences[place] = self.sequence_counts(place, marks[place]);
         }
     }
 
     /// Counts, once all is played, what became of chunks and packets, and has each writer answer the
-    /// requests that it hadn't answered.
-    pub fn count(&mut self, done: &mut Done)
+    /// requests that it hadn't answered. Writers are marked in whose names lines commit chunks.
+    pub fn count(&mut self, marks: &[bool], done: &mut Done)
         requires host { IsHost W.means self.old }
-        requires tally { (notes : List FlushNote) × IsTally notes (length (W.means.setup self.old.table).writers) self.old.flushes }
+        requires tally { (notes : List ActNote) × IsTally notes (length (W.means.setup self.old.table).writers) self.old.flushes }
         requires buffers { vec_len done.old.buffers ≡ length self.old.helper.service.specs.items }
         requires few { vec_len done.old.buffers ≤ MAX_BUFFERS }
         requires sequences { vec_len done.old.sequences ≡ length self.old.writers.items }
+        requires marks { length marks.now ≡ length self.old.writers.items }
         ensures made { self.new.flushes.made ≡ self.old.flushes.made }
         ensures room { vec_len self.new.flushes.chunks ≡ vec_len self.old.flushes.chunks }
-        ensures counts { CountsAll W.means self.old done.new.buffers.items done.new.sequences.items self.new.flushes }
+        ensures told { self.new.flushes.answers ≡ self.old.flushes.answers }
+        ensures raws { done.new.raws ≡ done.old.raws }
+        ensures counts { CountsAll W.means self.old marks.now done.new.buffers.items done.new.sequences.items self.new.flushes }
     {
         self.count_buffers(&mut done.buffers);
-        self.count_sequences(&mut done.sequences);
+        self.count_sequences(marks, &mut done.sequences);
         answer_for_rest(&self.helper.service, self.writers.len(), &mut self.flushes);
     }
 }

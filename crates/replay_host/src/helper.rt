@@ -19,7 +19,6 @@ impl<W: Words> HelperOn<W> for Collecting<W::Service> {
     ghost use Rattle.chunk_plain.specs.Views.{ServiceView};
     ghost use Rattle.service_core.specs.Agreement.{ServiceAgrees, IsOpen, ids_left};
     ghost use Rattle.replay_host.specs.Helping.{MayHelp, Helps};
-    ghost use Rattle.replay_host.specs.Standing.{own_still};
 
     ghost turns = { λ helper. ids_left helper.service };
 
@@ -40,7 +39,6 @@ impl<W: Words> HelperOn<W> for Collecting<W::Service> {
                 (subst (λ (s : Setup). ServiceAgrees s (W.means.service_view old helper.service.seat) helper.service)
                 (sym step.setup_stays) may.served.agrees);
             reads = step.reads_stay helper.service.seat may.served.reads;
-            own = own_still (W.means.service_view old helper.service.seat) (W.means.service_view new helper.service.seat) stays.1 may.served.own;
           };
           opened = subst (λ (s : Setup). IsOpen s helper.service helper.producer) (sym step.setup_stays) may.opened;
         } };

@@ -17,6 +17,7 @@ mod ids;
 mod lines;
 mod making;
 mod playing;
+mod raws;
 mod replaying;
 mod requests;
 mod serving;

@@ -12,10 +12,11 @@ ghost use Rattle.replay_host.specs.Replaying.{IsStall, CountsStop};
 
 use crate::fault::HostFault;
 use crate::host::Host;
+use crate::raws::PayloadRoom;
 use byte_io::traits::Sink;
 use chunk_plain::{Words, WriterCall};
 use field_tree::Fields;
-use scenario_text::LineKind;
+use scenario_text::{LineKind, RawChunk};
 use std::sync::ledger::Ledger;
 use trace_base::steps::Steps;
 
@@ -121,6 +122,7 @@ impl<W: Words> Host<W, W::Writer, W::Service> {
 
 impl<W: Words> Host<W, W::Writer, W::Service> {
     ghost use Rattle.replay_host.specs.Lines.{Moment, ComesNext, IsLinePlayed};
+    ghost use Rattle.replay_host.specs.Raws.{HasRoom};
     ghost use Rattle.replay_host.specs.Serving.{ComesServing};
     ghost use Rattle.replay_host.specs.Stopping.{StopsIn};
 
@@ -168,17 +170,32 @@ impl<W: Words> Host<W, W::Writer, W::Service> {
         self.read(buffer, limit, out)
     }
 
+    /// Plays a line that commits a chunk: what it is answered is kept.
+    fn play_raw(&mut self, place: usize, chunk: &RawChunk<'_>, payloads: &mut PayloadRoom)
+        requires next { (moment : Moment) × (moment.line.what ≡ line.Raw (suc place) chunk.now) × ComesNext W.means moment self.old }
+        requires room { HasRoom (W.means.setup self.old.table).sizes payloads.old }
+        ensures played { (moment : Moment) → moment.line.what ≡ line.Raw (suc place) chunk.now → ComesNext W.means moment self.old
+            → (taken : Intake) → IsLinePlayed W.means moment self.old taken self.new taken }
+        ensures room { HasRoom (W.means.setup self.old.table).sizes payloads.new }
+    {
+        let answer = self.commit(place, chunk, payloads);
+        self.flushes.tell(answer);
+    }
+
     /// Plays a line.
     pub(crate) fn play_line<O: Sink, L: Ledger>(
         &mut self,
         steps: &mut Steps<L>,
         line: &LineKind<'_>,
+        payloads: &mut PayloadRoom,
         out: &mut O,
     ) -> Result<(), HostFault>
         requires next { (moment : Moment) × (moment.line.what ≡ line.now) × ComesNext W.means moment self.old }
+        requires room { HasRoom (W.means.setup self.old.table).sizes payloads.old }
         requires may { O.may_write out.old }
         ensures played { OnOk result ((moment : Moment) → moment.line.what ≡ line.now → ComesNext W.means moment self.old
             → IsLinePlayed W.means moment self.old (O.taken out.old) self.new (O.taken out.new)) }
+        ensures room { HasRoom (W.means.setup self.old.table).sizes payloads.new }
         ensures stops { IfErr result (λ fault. (moment : Moment) → moment.line.what ≡ line.now → ComesNext W.means moment self.old
             → StopsIn W.means (acts_of moment.scenario moment.before moment.line.what) self.old (O.taken out.old) fault (O.taken out.new)) }
         ensures count { CountsStop (O.faults out.old) (O.faults out.new) result }
@@ -229,6 +246,10 @@ impl<W: Words> Host<W, W::Writer, W::Service> {
             }
             // Who plays the lines fills the clone behind it.
             LineKind::CloneBuffer { buffer: _ } => Ok(()),
+            LineKind::Raw { writer, chunk } => {
+                self.play_raw(place_of(*writer), chunk, payloads);
+                Ok(())
+            }
         }
     }
 }

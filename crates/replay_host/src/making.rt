@@ -13,6 +13,7 @@ ghost use Rattle.replay_host.specs.Making.{IsMade, IsNewcomer, buffer_asked};
 use crate::flushes::Flushes;
 use crate::helper::Collecting;
 use crate::host::Host;
+use crate::raws::count_raws;
 use chunk_plain::{PlainService, PlainTable, PlainWriter, ProducerSpec, Words};
 use claim_arbiter::Arbiter;
 use page_geometry::Geometry;
@@ -146,7 +147,8 @@ pub fn make_host(
     let (table, _seats, seat) = PlainTable::make(alloc, &producers, &scenario.writers)?;
     let service = ServiceCore::make(alloc, &buffers, &producers, &scenario.writers, seat)?;
     let requests = count_requests(&scenario.lines);
-    let flushes = Flushes::make(alloc, requests, scenario.writers.len())?;
+    let commits = count_raws(&scenario.lines);
+    let flushes = Flushes::make(alloc, requests, commits, scenario.writers.len())?;
     let specs = scenario.writers.as_slice().to_vec(alloc)?;
     let open_producers = vec![in alloc; true; scenario.producers.len()]?;
     let mut writers = Vec::with_capacity(alloc, specs.len())?;

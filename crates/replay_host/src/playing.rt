@@ -7,6 +7,7 @@ ghost use Rattle.replay_host.specs.Replaying.{CountsStop, IsStall};
 
 use crate::fault::HostFault;
 use crate::host::Host;
+use crate::raws::PayloadRoom;
 use buffer_clone::BufferClone;
 use byte_io::traits::Sink;
 use chunk_plain::Words;
@@ -17,6 +18,7 @@ use trace_base::steps::Steps;
 impl<W: Words> Host<W, W::Writer, W::Service> {
     ghost use Rattle.replay_host.specs.Cloning.{AreAsMade, FitsClone, HaveCloned, clone_now};
     ghost use Rattle.replay_host.specs.Playing.{IsHost};
+    ghost use Rattle.replay_host.specs.Raws.{HasRoom};
     ghost use Rattle.replay_host.specs.Stopping.{StopsIn};
     ghost use Rattle.replay_host.specs.Whole.{Begins, HavePlayed};
 
@@ -41,10 +43,12 @@ impl<W: Words> Host<W, W::Writer, W::Service> {
         &mut self,
         steps: &mut Steps<L>,
         lines: &LineList,
+        payloads: &mut PayloadRoom,
         clones: &mut [BufferClone],
         out: &mut O,
     ) -> Result<(), HostFault>
         requires begins { (scenario : Parts) × (scenario.lines ≡ lines.now) × Begins W.means scenario self.old }
+        requires room { HasRoom (W.means.setup self.old.table).sizes payloads.old }
         requires clones { AreAsMade W.means self.old lines.now clones.old }
         requires may { O.may_write out.old }
         ensures played { OnOk result ((scenario : Parts) → scenario.lines ≡ lines.now → Begins W.means scenario self.old
@@ -60,7 +64,7 @@ impl<W: Words> Host<W, W::Writer, W::Service> {
         let mut walk = lines.walk();
         let mut filled = 0;
         'lines: while let Some(line) = walk.next() {
-            self.play_line(steps, &line.what, out)?;
+            self.play_line(steps, &line.what, payloads, out)?;
             if let LineKind::CloneBuffer { buffer } = line.what {
                 filled = self.fill_next(clones, filled, buffer);
             }

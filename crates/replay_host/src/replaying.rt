@@ -1,11 +1,13 @@
 //! The replay of a whole scenario.
-ghost use Rattle.std.specs.Prelude.{◌≡◌, ◌<◌, length, IfOk, OnOk, IfErr, vec_len};
+ghost use Rattle.std.specs.Prelude.{◌≡◌, ◌<◌, ◌≤◌, [], ◌++◌, length, IfOk, OnOk, IfErr, vec_len, vec_capacity};
+ghost use Rattle.loss_report.specs.Raws.{raw_text};
 ghost use Rattle.loss_report.specs.Report.{report_text};
 ghost use Rattle.replay_model.specs.Clones.{ReplaysCloning, AreMadeFor};
 ghost use Rattle.scenario_text.specs.Clones.{ClonesNone, without_clones};
 ghost use Rattle.scenario_text.specs.Scenario.{IsScenario, parts_of};
 ghost use Rattle.replay_host.specs.Cloning.{HasReplayedCloning};
 ghost use Rattle.replay_host.specs.Making.{IsMade};
+ghost use Rattle.replay_host.specs.Raws.{AreMarked, HasRoom, raws_in};
 ghost use Rattle.replay_host.specs.Replaying.{HasReplayed, EndsEarly, CountsStop, IsStall};
 
 use crate::counting::make_done;
@@ -13,43 +15,53 @@ use crate::fault::HostFault;
 use crate::flushes::Flushes;
 use crate::host::Host;
 use crate::making::make_host;
+use crate::raws::{PayloadRoom, count_raws, fill_raws, make_room, mark_raws};
 use buffer_clone::BufferClone;
 use byte_io::traits::Sink;
 use chunk_plain::{PlainService, PlainTable, PlainWriter, Words};
 use loss_report::Done;
 use scenario_text::Scenario;
-use std::alloc::Global;
+use std::alloc::{AllocError, Global};
 use std::marker::Brand;
 use std::sync::ledger::{Blank, Ledger};
 use trace_base::steps::Steps;
 
 impl<W: Words> Host<W, W::Writer, W::Service> {
-    /// Plays the lines and the end, and counts what became of packets and chunks. The clones that lines
-    /// ask for are filled on the way.
+    /// Plays the lines and the end, counts what became of packets and chunks, and puts with each line `raw`
+    /// what it was answered. The clones that lines ask for are filled on the way. Writers are marked in whose
+    /// names lines commit chunks.
     fn play<O: Sink, L: Ledger>(
         &mut self,
         steps: &mut Steps<L>,
         scenario: &Scenario,
+        marks: &[bool],
+        payloads: &mut PayloadRoom,
         done: &mut Done,
         clones: &mut [BufferClone],
         out: &mut O,
     ) -> Result<(), HostFault>
         requires scenario { IsScenario scenario.now }
         requires made { IsMade W.means (parts_of scenario.now) self.old }
+        requires marks { AreMarked scenario.now.lines (length scenario.now.writers.items) marks.now }
+        requires room { HasRoom (W.means.setup self.old.table).sizes payloads.old }
         requires clones { AreMadeFor (parts_of scenario.now) clones.old }
         requires buffers { vec_len done.old.buffers ≡ vec_len scenario.now.buffers }
         requires sequences { vec_len done.old.sequences ≡ vec_len scenario.now.writers }
+        requires raws { done.old.raws.items ≡ [] }
+        requires raw_room { raws_in scenario.now.lines ≤ vec_capacity done.old.raws }
         requires may { O.may_write out.old }
         ensures played { OnOk result (ReplaysCloning (parts_of scenario.now) (O.taken out.old) (O.taken out.new)
-            (report_text done.new.buffers.items done.new.sequences.items self.new.flushes.chunks.items) clones.new) }
+            (report_text done.new.buffers.items done.new.sequences.items self.new.flushes.chunks.items ++ raw_text done.new.raws.items)
+            clones.new) }
         ensures stops { IfErr result (λ fault. EndsEarly (without_clones (parts_of scenario.now)) fault (O.taken out.old) (O.taken out.new)) }
         ensures count { CountsStop (O.faults out.old) (O.faults out.new) result }
         ensures goes_on { OnOk result (O.may_write out.new) }
         ensures stalled { IfErr result (λ fault. IsStall fault → O.may_write out.new) }
     {
-        self.play_lines(steps, &scenario.lines, clones, out)?;
+        self.play_lines(steps, &scenario.lines, payloads, clones, out)?;
         self.play_end(scenario.buffers.len(), out)?;
-        self.count(done);
+        self.count(marks, done);
+        fill_raws(&scenario.lines, &self.flushes.answers, &mut done.raws);
         Ok(())
     }
 }
@@ -75,9 +87,23 @@ impl Host<PlainTable, PlainWriter, PlainService> {
     }
 }
 
+/// Room for the counts of a scenario, and for the answers to its lines `raw`.
+fn make_report(alloc: Global, scenario: &Scenario) -> Result<Done, AllocError>
+    ensures buffers { IfOk result (λ done. vec_len done.buffers ≡ vec_len scenario.now.buffers) }
+    ensures sequences { IfOk result (λ done. vec_len done.sequences ≡ vec_len scenario.now.writers) }
+    ensures raws { IfOk result (λ done. done.raws.items ≡ []) }
+    ensures raw_room { IfOk result (λ done. raws_in scenario.now.lines ≤ vec_capacity done.raws) }
+{
+    let mut done = make_done(alloc, scenario.buffers.len(), scenario.writers.len())?;
+    done.raws = Vec::with_capacity(alloc, count_raws(&scenario.lines))?;
+    Ok(done)
+}
+
 /// Plays a scenario with what was made for it, on a ledger of its own.
 fn play_made<T: Sink, L: Ledger>(
     made: Host<PlainTable, PlainWriter, PlainService>,
+    marks: &[bool],
+    payloads: &mut PayloadRoom,
     room: Done,
     scenario: &Scenario,
     blank: Blank,
@@ -86,9 +112,13 @@ fn play_made<T: Sink, L: Ledger>(
 ) -> Result<Done, HostFault>
     requires scenario { IsScenario scenario.now }
     requires made { IsMade ⟦<PlainTable as Words>⟧.means (parts_of scenario.now) made }
+    requires marks { AreMarked scenario.now.lines (length scenario.now.writers.items) marks.now }
+    requires payloads { HasRoom (⟦<PlainTable as Words>⟧.means.setup made.table).sizes payloads.old }
     requires clones { AreMadeFor (parts_of scenario.now) clones.old }
     requires buffers { vec_len room.buffers ≡ vec_len scenario.now.buffers }
     requires sequences { vec_len room.sequences ≡ vec_len scenario.now.writers }
+    requires raws { room.raws.items ≡ [] }
+    requires raw_room { raws_in scenario.now.lines ≤ vec_capacity room.raws }
     requires name { blank.name ≡ L.name }
     requires parts { blank.parts ≡ L.parts }
     requires some_part { 0 < L.parts }
@@ -102,7 +132,9 @@ fn play_made<T: Sink, L: Ledger>(
     let mut host = made;
     let mut done = room;
     let mut steps = Steps::<L>::new(blank);
-    let played = host.play(&mut steps, scenario, &mut done, clones, out);
+    let played = host.play(
+        &mut steps, scenario, marks, payloads, &mut done, clones, out,
+    );
     done.flushes = host.dismiss().chunks;
     match played {
         Ok(()) => Ok(done),
@@ -111,7 +143,7 @@ fn play_made<T: Sink, L: Ledger>(
 }
 
 /// Plays a scenario into a sink, fills the clones that its lines ask for, and answers what became of
-/// its packets, its chunks and its flush requests. The clones are made for the lines, in their order.
+/// its packets, its chunks, its flush requests and what it commits. The clones are made for the lines, in their order.
 /// Where it stops early, the sink has taken a front part of the trace.
 pub fn replay_cloning<T: Sink>(
     alloc: Global,
@@ -128,15 +160,28 @@ pub fn replay_cloning<T: Sink>(
     ensures goes_on { OnOk result (T.may_write out.new) }
     ensures stalled { IfErr result (λ fault. IsStall fault → T.may_write out.new) }
 {
-    let buffers = scenario.buffers.len();
-    let writers = scenario.writers.len();
-    let Ok(room) = make_done(alloc, buffers, writers) else {
+    let Ok(room) = make_report(alloc, scenario) else {
+        return Err(HostFault::OutOfMemory);
+    };
+    let Ok(marks) = mark_raws(alloc, scenario) else {
+        return Err(HostFault::OutOfMemory);
+    };
+    let Ok(mut payloads) = make_room(alloc, scenario) else {
         return Err(HostFault::OutOfMemory);
     };
     let Ok(made) = make_host(alloc, scenario) else {
         return Err(HostFault::OutOfMemory);
     };
-    play_made::<T, Brand>(made, room, scenario, Blank::new(1), clones, out)
+    play_made::<T, Brand>(
+        made,
+        &marks,
+        &mut payloads,
+        room,
+        scenario,
+        Blank::new(1),
+        clones,
+        out,
+    )
 }
 
 /// The same of a scenario whose lines ask for no clone.

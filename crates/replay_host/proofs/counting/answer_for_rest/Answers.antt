@@ -1,7 +1,7 @@
 -- One writer after another answers with what was taken of it.
 use Rattle.std.proofs.Common.{◌≡◌, ◌∙◌, ℕ, suc, ◌+◌, ◌-◌, List, [], ◌∷◌, ◌++◌, refl, sym, ap, subst, arith, append_assoc, append-nil}
 use Rattle.chunk_plain.specs.Views.{taken_of}
-use Rattle.replay_model.specs.Flushes.{FlushNote, Answered}
+use Rattle.replay_model.specs.ActNotes.{ActNote, Answered}
 use Rattle.replay_host.specs.Counting.{answers_to}
 use Rattle.replay_host.specs.Tally.{IsTally}
 use Rattle.replay_host.proofs.counting.answer_for_rest.Goals as goal
@@ -20,14 +20,16 @@ pub loop-place-init : goal.loop-place-init
 loop-place-init g c = record {
   made = refl;
   room = refl;
+  told = refl;
   tally = λ notes setup view tally agrees.
-      subst (λ (all : List FlushNote). IsTally all c.args.writers c.args.flushes.now) (sym (append-nil notes)) tally;
+      subst (λ (all : List ActNote). IsTally all c.args.writers c.args.flushes.now) (sym (append-nil notes)) tally;
 }
 
 pub loop-place-preserved : goal.loop-place-preserved
 loop-place-preserved g c = record {
   made = c.answer.ensures.made ∙ c.loop-place.invariant.made;
   room = c.answer.ensures.room ∙ c.loop-place.invariant.room;
+  told = c.answer.ensures.told ∙ c.loop-place.invariant.told;
   tally = λ notes setup view tally agrees.
       let place : ℕ = c.loop-place.place in
       let here : place + 1 - 1 ≡ place = omega arith in
@@ -37,7 +39,7 @@ loop-place-preserved g c = record {
       (c.loop-place.invariant.tally notes setup view tally agrees) in
       let more : suc place ≡ place + 1 = omega arith in
       subst (λ (n : ℕ). IsTally (notes ++ answers_to view n) c.args.writers c.answer.new.self) more
-      (subst (λ (all : List FlushNote). IsTally all c.args.writers c.answer.new.self)
+      (subst (λ (all : List ActNote). IsTally all c.args.writers c.answer.new.self)
       (append_assoc notes (answers_to view place) (Answered place (taken_of view place).count ∷ []))
       (subst (λ (n : ℕ). IsTally ((notes ++ answers_to view place) ++ Answered place n ∷ []) c.args.writers c.answer.new.self) taken next));
 }

@@ -182,4 +182,5 @@ returns c =
       flags = c.in_ok-open_producers.ensures.items_if_clones_equal (λ y e. e) ∙ ap (λ (n : ℕ). replicate n true) count_producers;
       tally = subst (λ (n : ℕ). IsTally [] n c.in_ok-flushes.flushes) count_writers c.in_ok-flushes.ensures.tally;
       room = c.in_ok-flushes.ensures.room ∙ c.count_requests-requests.ensures;
+      told_room = let room = c.in_ok-flushes.ensures.told_room in let counted = c.count_raws-commits.ensures in omega (arith, room, counted);
     }) (asks_well scenario c.requires) (scenario_is_short scenario c.requires)

@@ -10,7 +10,7 @@ use Rattle.replay_host.proofs.RowLemmas.{AreLaws}
 use Rattle.replay_host.proofs.counting.Host+W+W+Writer+W+Service.count.Goals as goal
 
 pub returns-clause-counts : goal.returns-clause-counts
-returns-clause-counts g c scenario notes world told played playable first tally =
+returns-clause-counts g c scenario notes world told played playable first tally marked =
     let means = g.W.Words.means in
     let laws : AreLaws means = record {
       told_view = g.met.W.Words.told_view;
@@ -31,11 +31,11 @@ returns-clause-counts g c scenario notes world told played playable first tally 
     let buffers_many : length buffers ≡ length host.helper.service.specs.items =
     ap (λ (xs : List BufferCounts). length xs) c.count_buffers.ensures ∙ length-map (buffers_now means host) counts_of
     ∙ buffers_long means host in
-    let is = counts_all means laws host c.requires.host buffers sequences c.answer_for_rest.new.flushes c.len.result
+    let is = counts_all means laws host c.requires.host c.args.marks.now buffers sequences c.answer_for_rest.new.flushes c.len.result
     (omega (arith, many, writers_joined)) c.count_buffers.ensures
     (omega (arith, room, wide, joined, said)) c.count_sequences.ensures.each c.answer_for_rest.ensures.tally
     c.answer_for_rest.new.flushes.chunks.ok.0
-    scenario notes world told played playable first tally in
+    scenario notes world told played playable first tally marked in
     record {
       buffers_are = with_items_is c.args.done.now.buffers buffers (buffers_many ∙ sym c.requires.buffers) ∙ is.buffers_are;
       sequences_are = with_items_is c.args.done.now.sequences sequences (omega (arith, room, wide, joined)) ∙ is.sequences_are;

@@ -1,10 +1,11 @@
 -- The sums are raised from the first request that the writer hadn't answered.
-use Rattle.std.proofs.Common.{◌≡◌, ◌∙◌, ℕ, ◌+◌, ◌<◌, List, [], ◌∷◌, ◌++◌, length, length-set, get_or, set, replicate, vec_len, sym, ap, subst, inl, inr, arith, length-append}
+use Rattle.std.proofs.Common.{◌≡◌, ◌∙◌, ℕ, ◌+◌, ◌<◌, List, [], ◌∷◌, ◌++◌, length, length-set, get_or, set, replicate, vec_len, sym, ap, subst, inl, inr, arith, length-append, append-nil}
 use Rattle.std.proofs.lemmas.Bool.{cases_eq}
 use Rattle.std.proofs.lemmas.List.{get_or-set_same, get_or-set_other, get_or_append_left, get_or_read}
-use Rattle.replay_model.specs.Flushes.{Answered, flush_sums}
+use Rattle.replay_model.specs.ActNotes.{Answered, answers_in}
+use Rattle.replay_model.specs.Flushes.{flush_sums}
 use Rattle.replay_host.specs.Tally.{nobody, answered_by}
-use Rattle.replay_host.proofs.TallyLemmas.{raised_from, raised_long, raised_is, sums_answer, answered_own, answered_other, answered_most, fits_append, sums_small}
+use Rattle.replay_host.proofs.TallyLemmas.{raised_from, raised_long, raised_is, sums_answer, answered_own, answered_other, answered_most, fits_append, sums_small, told_append}
 use Rattle.replay_host.proofs.flushes.Flushes.answer.Goals as goal
 
 -- the first request that the writer hadn't answered, as it is read
@@ -59,6 +60,7 @@ loop-flush-preserved c =
     record {
       made = i.made;
       answered = i.answered;
+      told = i.told;
       long = length-set items flush value ∙ i.long;
       same = λ k above. get_or-set_other items flush k value 0 (λ at. omega (arith, above, at)) ∙ i.same k (omega (arith, above));
       below = λ k early. get_or-set_other items flush k value 0 (λ at. omega (arith, early, at, from, least)) ∙ i.below k early;
@@ -114,4 +116,5 @@ returns-clause-tally c notes writers tally =
             ∙ ap (λ (v : _). get_or v.items other 0) i.answered ∙ tally.answered other inside
             ∙ sym (answered_other other place c.args.chunks notes (λ at. apart (sym at)))
       ];
+      told = ap (λ (v : _). v.items) i.told ∙ tally.told ∙ sym (told_append notes (Answered place c.args.chunks ∷ []) ∙ append-nil (answers_in notes));
     }

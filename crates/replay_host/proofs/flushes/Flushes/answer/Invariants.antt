@@ -6,6 +6,7 @@ abbrev pub invariant-loop-flush : goal.invariant-loop-flush
 invariant-loop-flush l = record {
   made : l.self.made ≡ l.fn.self.made;
   answered : l.self.answered ≡ l.fn.self.answered;
+  told : l.self.answers ≡ l.fn.self.answers;
   long : length l.self.chunks.items ≡ length l.fn.self.chunks.items;
   same : (k : ℕ) → l.flush ≤ k → get_or l.self.chunks.items k 0 ≡ get_or l.fn.self.chunks.items k 0;
   below : (k : ℕ) → k < get_or l.fn.self.answered.items l.place 0 → get_or l.self.chunks.items k 0 ≡ get_or l.fn.self.chunks.items k 0;

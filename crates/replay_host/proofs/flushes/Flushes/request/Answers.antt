@@ -1,9 +1,10 @@
 -- A request takes the room that is there for it.
-use Rattle.std.proofs.Common.{◌≡◌, ◌∙◌, ℕ, zero, suc, ◌+◌, ◌<◌, List, [], ◌∷◌, ◌++◌, length, replicate, sym, ap, append_assoc, length-append, arith}
+use Rattle.std.proofs.Common.{◌≡◌, ◌∙◌, ℕ, zero, suc, ◌+◌, ◌<◌, List, [], ◌∷◌, ◌++◌, length, replicate, sym, ap, append_assoc, append-nil, length-append, arith}
 use Rattle.std.proofs.lemmas.List.{length-replicate}
-use Rattle.replay_model.specs.Flushes.{Requested, flush_sums}
+use Rattle.replay_model.specs.ActNotes.{Requested, answers_in}
+use Rattle.replay_model.specs.Flushes.{flush_sums}
 use Rattle.replay_host.specs.Tally.{nobody}
-use Rattle.replay_host.proofs.TallyLemmas.{sums_request, answered_request, fits_append}
+use Rattle.replay_host.proofs.TallyLemmas.{sums_request, answered_request, fits_append, told_append}
 use Rattle.replay_host.proofs.flushes.Flushes.request.Goals as goal
 
 -- one of the rooms is taken
@@ -29,4 +30,5 @@ returns-clause-tally c notes writers tally =
       chunks = tally.chunks ∙ left.1 ∙ ap (λ (xs : List ℕ). xs ++ replicate left.0 0) (sym next);
       made = ap (λ (n : ℕ). n + 1) made ∙ sym longer;
       answered = λ place below. tally.answered place below ∙ sym (answered_request place notes);
+      told = tally.told ∙ sym (told_append notes (Requested ∷ []) ∙ append-nil (answers_in notes));
     }

@@ -2,23 +2,19 @@
 use Rattle.std.proofs.Common.{◌∙◌, ◌<◌, ltb-true, sym, subst}
 use Rattle.chunk_plain.specs.Setup.{Setup}
 use Rattle.service_core.specs.Agreement.{ServiceAgrees, IsOpen}
-use Rattle.service_core.specs.Taking.{places_of}
 use Rattle.service_core.proofs.RoomLemmas.{ids_fall}
-use Rattle.service_core.proofs.AnswerLemmas.{takes_own}
 use Rattle.replay_host.proofs.helper.CollectingServiceHelperOn.help.Goals as goal
 
 pub returns-clause-needs : goal.returns-clause-needs
 returns-clause-needs g c =
     let means = g.W.Words.means in
     let was = c.requires.needs in
-    let setup : Setup = means.setup c.args.table.now in
     let step = c.collect-count.ensures.step in
     record {
       served = record {
         serves = step.seat_stays;
         agrees = subst (λ (s : Setup). ServiceAgrees s (means.service_view c.collect-count.new.table c.collect-count.new.self.seat) c.collect-count.new.self) (sym step.setup_stays) c.collect-count.ensures.agrees;
         reads = step.reads_stay was.served.reads;
-        own = takes_own setup (places_of c.args.producer 0 setup.writers) c.collect-count.result _ _ c.collect-count.ensures.takes ∙ was.served.own;
       };
       opened = subst (λ (s : Setup). IsOpen s c.collect-count.new.self c.args.self.now.producer) (sym step.setup_stays)
           (λ place below of_producer. c.collect-count.ensures.keeps.closed place below ∙ was.opened place below of_producer);

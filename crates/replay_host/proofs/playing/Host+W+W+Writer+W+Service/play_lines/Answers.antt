@@ -1,5 +1,5 @@
 -- Each line is played behind those before it, and its clone is filled.
-use Rattle.std.proofs.Common.{◌≡◌, ◌∙◌, ℕ, suc, ◌+◌, ◌-◌, ◌<◌, ◌≤◌, List, [], ◌∷◌, ◌++◌, length, map, take, drop, get_or, set, refl, ap, sym, subst, rules, arith, append-nil}
+use Rattle.std.proofs.Common.{◌≡◌, ◌∙◌, ℕ, suc, ◌-◌, ◌<◌, ◌≤◌, List, [], ◌∷◌, ◌++◌, length, map, take, drop, get_or, refl, ap, sym, subst, rules, arith, append-nil}
 use Rattle.std.proofs.Math.Seq.{take_all}
 use Rattle.std.proofs.lemmas.List.{length-drop}
 use Rattle.std.specs.Prelude.{Err}
@@ -11,6 +11,8 @@ use Rattle.scenario_text.specs.Clones.{clones_by, clones_in}
 use Rattle.scenario_text.specs.Scenario.{Parts}
 use Rattle.service_core.specs.Agreement.{first_of}
 use Rattle.service_core.specs.Routing.{buffer_at}
+use Rattle.chunk_plain.specs.Setup.{Setup}
+use Rattle.replay_host.specs.Raws.{HasRoom}
 use Rattle.replay_host.specs.Cloning.{HaveCloned, clone_now}
 use Rattle.replay_host.proofs.CloningLemmas.{cloned_first}
 use Rattle.replay_host.proofs.FieldLemmas.{if_err_is}
@@ -35,6 +37,7 @@ lines-init g c = record {
       } in
       cloned_first means laws scenario c.args.self.now;
   coming = c.requires.clones;
+  room = c.requires.room;
   steady = refl;
   may = c.requires.may;
 }
@@ -138,6 +141,10 @@ lines-preserved g c = record {
       ∙ ap (map (λ (number : ℕ). buffer_at (first_of (g.W.Words.means.setup c.args.self.now.table) c.args.self.now.helper.service) (number - 1)))
       (coming_next c.args.lines.now c.next.new.self c.lines.invariant.place line (c.lines.invariant.left ∙ c.in-Some.ensures.first)
       ∙ ap (λ (numbers : List ℕ). numbers ++ clones_in (drop (suc c.lines.invariant.place) c.args.lines.now)) none);
+  room =
+      let begins = c.requires.begins in
+      subst (λ (s : Setup). HasRoom s.sizes c.play_line.new.payloads) (c.lines.invariant.played begins.0 begins.1 begins.2).done.setup_is
+      c.in_ok-play_line.ensures.room;
   steady = c.in_ok-play_line.ensures.count ∙ c.lines.invariant.steady;
   may = c.in_ok-play_line.ensures.goes_on;
 }
@@ -205,6 +212,10 @@ lines-preserved-in-CloneBuffer g c = record {
       ∙ ap (λ (bs : List Buffer). drop (suc c.lines.filled) bs) c.fill_next-filled.ensures.filled
       ∙ drop_set c.lines.clones c.lines.filled (clone_now means c.play_line.new.self c.in-CloneBuffer.buffer)
       ∙ first.2;
+  room =
+      let begins = c.requires.begins in
+      subst (λ (s : Setup). HasRoom s.sizes c.play_line.new.payloads) (c.lines.invariant.played begins.0 begins.1 begins.2).done.setup_is
+      c.in_ok-play_line.ensures.room;
   steady = c.in_ok-play_line.ensures.count ∙ c.lines.invariant.steady;
   may = c.in_ok-play_line.ensures.goes_on;
 }
@@ -334,3 +345,8 @@ returns-clause-cloned g c scenario same begins =
     subst (λ (ls : List NumberedLine). HaveCloned means scenario [] ls c.args.self.now c.lines.self c.lines.clones) (take_all i scenario.lines most)
     (subst (λ (bs : List Buffer). HaveCloned means scenario [] (take i scenario.lines) c.args.self.now c.lines.self bs) (take_all c.lines.filled c.lines.clones all)
     (c.lines.invariant.made scenario same begins))
+
+pub play_line-requires-clause-room : goal.play_line-requires-clause-room
+play_line-requires-clause-room g c =
+    let begins = c.requires.begins in
+    subst (λ (s : Setup). HasRoom s.sizes c.lines.payloads) (sym (c.lines.invariant.played begins.0 begins.1 begins.2).done.setup_is) c.lines.invariant.room

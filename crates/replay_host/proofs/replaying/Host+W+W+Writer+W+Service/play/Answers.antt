@@ -1,13 +1,16 @@
 -- The lines are played from the first world on, and then the end.
-use Rattle.std.proofs.Common.{◌≡◌, refl, rules, arith}
+use Rattle.std.proofs.Common.{◌≡◌, ◌∙◌, List, refl, ap, rules, arith}
 use Rattle.std.specs.Prelude.{Err}
 use Rattle.scenario_text.specs.Clones.{without_clones}
 use Rattle.scenario_text.specs.Scenario.{parts_of}
 use Rattle.scenario_text.proofs.LimitLemmas.{scenario_is_set_up}
+use Rattle.scenario_text.specs.Raws.{raw_numbers}
+use Rattle.loss_report.specs.declared.raws.RawAnswer.{RawAnswer}
+use Rattle.replay_model.specs.Raws.{raw_lines}
 use Rattle.replay_host.specs.Replaying.{EndsEarly}
 use Rattle.replay_host.proofs.CloningLemmas.{ends_without}
 use Rattle.replay_host.proofs.FieldLemmas.{if_err_is}
-use Rattle.replay_host.proofs.ReplayingLemmas.{may_begin, lines_stopped, is_over, few_read, end_stopped, ended_host, ended_noted, buffers_room, sequences_room, as_made, all_cloned}
+use Rattle.replay_host.proofs.ReplayingLemmas.{may_begin, lines_stopped, is_over, few_read, end_stopped, ended_host, ended_noted, buffers_room, sequences_room, marks_many, as_made, all_cloned}
 use Rattle.replay_host.proofs.RowLemmas.{AreLaws}
 use Rattle.replay_host.proofs.replaying.Host+W+W+Writer+W+Service.play.Goals as goal
 
@@ -131,6 +134,21 @@ count-requires-clause-sequences g c =
     c.len.result c.len.ensures laws c.play_end.new.self (g.O.Sink.taken c.play_end.new.out) c.in_ok-play_end.ensures.ended
     c.args.done.now c.requires.sequences
 
+pub count-requires-clause-marks : goal.count-requires-clause-marks
+count-requires-clause-marks g c =
+    let means = g.W.Words.means in
+    let laws : AreLaws means = record {
+      told_view = g.met.W.Words.told_view;
+      told_service_view = g.met.W.Words.told_service_view;
+      told_writers = g.met.W.Words.told_writers;
+      told_owned = g.met.W.Words.told_owned;
+    } in
+    marks_many means c.args.scenario.now c.requires.scenario c.args.self.now c.requires.made
+    (g.O.Sink.taken c.args.out.now)
+    c.args.scenario.now.lines refl c.play_lines.new.self (g.O.Sink.taken c.play_lines.new.out) c.in_ok-play_lines.ensures.played
+    c.len.result c.len.ensures laws c.play_end.new.self (g.O.Sink.taken c.play_end.new.out) c.in_ok-play_end.ensures.ended
+    c.args.marks.now c.requires.marks
+
 pub returns-clause-played : goal.returns-clause-played
 returns-clause-played g c =
     let means = g.W.Words.means in
@@ -145,5 +163,6 @@ returns-clause-played g c =
     c.args.scenario.now.lines refl c.play_lines.new.self (g.O.Sink.taken c.play_lines.new.out) c.in_ok-play_lines.ensures.played
     c.len.result c.len.ensures laws c.play_end.new.self (g.O.Sink.taken c.play_end.new.out) c.in_ok-play_end.ensures.ended
     c.play_lines.new.clones c.in_ok-play_lines.ensures.cloned
-    c.count.new.done.buffers.items c.count.new.done.sequences.items c.count.new.self.flushes c.count.ensures.counts
-    c.count.ensures.made c.count.ensures.room
+    c.args.marks.now c.requires.marks c.count.new.done.buffers.items c.count.new.done.sequences.items c.count.new.self.flushes c.fill_raws.new.raws.items
+    c.count.ensures.counts c.count.ensures.made c.count.ensures.room c.count.ensures.told
+    (c.fill_raws.ensures ∙ ap (λ (answers : List RawAnswer). raw_lines (raw_numbers c.args.scenario.now.lines) answers) c.deref.ensures.value)

@@ -47,7 +47,7 @@ returns g c =
               (c.acknowledge.ensures.agrees _ _ after.stands.served.agrees);
           keeps = keeps_answer means place old mid _ _ _ _ between asked refl refl refl c.acknowledge.ensures.keeps
               c.acknowledge.ensures.after
-              c.answer.ensures.made c.answer.ensures.room first;
+              c.answer.ensures.made c.answer.ensures.room c.answer.ensures.told first;
           tally = λ notes writers tally. c.answer.ensures.tally notes writers
               (subst (λ f. IsTally notes writers f) (sym asked.books.flushes) tally);
           done = done_answered means laws place c.completed-chunks.result old mid _ c.index.result.now between was below after asked at

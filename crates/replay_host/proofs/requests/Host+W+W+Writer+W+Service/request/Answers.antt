@@ -32,6 +32,7 @@ returns g c =
         tally = c.request.ensures.tally;
         made = c.request.ensures.made;
         room = c.request.ensures.room;
+        told = c.request.ensures.told;
         answered = c.request.ensures.answered;
         state = ap (λ (s : SessionValue). s.state) c.request_flush.ensures.after ∙ state_requested _ old.helper.service.session;
         requests = ap (λ (s : SessionValue). s.requests) c.request_flush.ensures.after ∙ requests_more old.helper.service.session

@@ -1,12 +1,10 @@
 -- A taking of chunks is one act of the service.
-use Rattle.std.proofs.Common.{◌∙◌, refl}
+use Rattle.std.proofs.Common.{refl}
 use Rattle.chunk_plain.specs.Setup.{Setup}
 use Rattle.chunk_plain.specs.Views.{ServiceView}
-use Rattle.service_core.specs.Taking.{places_of}
-use Rattle.service_core.proofs.AnswerLemmas.{takes_own}
+use Rattle.replay_model.proofs.ShutLemmas.{open_is}
 use Rattle.replay_host.proofs.RowLemmas.{AreLaws}
 use Rattle.replay_host.proofs.ServedLemmas.{served_stands, served_is, opened_still, collect_done}
-use Rattle.replay_host.proofs.TakenLemmas.{open_is}
 use Rattle.replay_host.proofs.serving.Host+W+W+Writer+W+Service.collect.Goals as goal
 
 pub returns-clause-host : goal.returns-clause-host
@@ -15,8 +13,7 @@ returns-clause-host g c =
     let was = c.requires.host in
     let setup : Setup = means.setup c.args.self.now.table in
     let step = c.collect.ensures.step in
-    let own = takes_own setup (places_of c.args.producer 0 setup.writers) c.collect.result _ _ c.collect.ensures.takes ∙ was.stands.served.own in
-    let served = served_is means c.args.self.now.table c.collect.new.table c.args.self.now.helper.service c.collect.new.self was.stands.served step c.collect.ensures.agrees own in
+    let served = served_is means c.args.self.now.table c.collect.new.table c.args.self.now.helper.service c.collect.new.self was.stands.served step c.collect.ensures.agrees in
     let stands = served_stands means c.args.self.now.table c.collect.new.table c.args.self.now.writers.items c.args.self.now.helper.service c.collect.new.self was.stands step served in
     opened_still means c.args.self.now _ was stands step.setup_stays c.collect.ensures.keeps refl refl
 
@@ -41,5 +38,5 @@ returns-clause-done g c intake =
     let old = c.args.self.now in
     let setup : Setup = means.setup old.table in
     let view : ServiceView = means.service_view old.table old.helper.service.seat in
-    let opened = open_is setup view old.helper.service c.args.producer was.stands.served.agrees was.stands.served.own (was.opened c.args.producer c.requires.producer c.requires.open) in
+    let opened = open_is setup view old.helper.service c.args.producer was.stands.served.agrees (was.opened c.args.producer c.requires.producer c.requires.open) in
     collect_done means laws c.args.producer c.collect.result old _ was.stands.served c.collect.ensures.step c.collect.ensures.keeps opened c.collect.ensures.takes c.collect.ensures.told intake

@@ -1,9 +1,9 @@
 -- The reading of a buffer is one act of the service.
-use Rattle.std.proofs.Common.{◌∙◌, IfOk, OnErr, refl, subst}
+use Rattle.std.proofs.Common.{IfOk, OnErr, refl, subst}
 use Rattle.chunk_plain.specs.Setup.{Setup}
 use Rattle.chunk_plain.specs.Views.{ServiceView}
 use Rattle.service_core.specs.Reading.{FailsAmong, ReadsAll}
-use Rattle.replay_host.proofs.ReadLemmas.{read_done, read_fails, reads_own}
+use Rattle.replay_host.proofs.ReadLemmas.{read_done, read_fails}
 use Rattle.replay_host.proofs.RowLemmas.{AreLaws}
 use Rattle.replay_host.proofs.ServedLemmas.{served_stands, served_is, opened_still}
 use Rattle.replay_host.proofs.serving.Host+W+W+Writer+W+Service.read.Goals as goal
@@ -20,8 +20,7 @@ returns-in-Ok-clause-host g c =
     let step = call.ensures.step in
     let reads = subst (λ r. IfOk r (λ delivered. ReadsAll setup old.helper.service c.args.buffer c.args.limit before view
     (g.O.Sink.taken c.args.out.now) (g.O.Sink.taken call.new.out) delivered)) c.in-Ok.is call.ensures.reads in
-    let own = reads_own setup old.helper.service _ before view reads.notes ∙ was.stands.served.own in
-    let served = served_is means old.table call.new.table old.helper.service call.new.self was.stands.served step call.ensures.agrees own in
+    let served = served_is means old.table call.new.table old.helper.service call.new.self was.stands.served step call.ensures.agrees in
     let stands = served_stands means old.table call.new.table old.writers.items old.helper.service call.new.self was.stands step served in
     opened_still means old _ was stands step.setup_stays call.ensures.keeps refl refl
 
@@ -64,8 +63,7 @@ returns-in-Err-clause-host g c =
     let step = call.ensures.step in
     let fails = subst (λ r. OnErr r (FailsAmong setup old.helper.service c.args.buffer c.args.limit before view
     (g.O.Sink.taken c.args.out.now) (g.O.Sink.taken call.new.out))) c.in-Err.is call.ensures.fails in
-    let own = reads_own setup old.helper.service _ before view fails.notes ∙ was.stands.served.own in
-    let served = served_is means old.table call.new.table old.helper.service call.new.self was.stands.served step call.ensures.agrees own in
+    let served = served_is means old.table call.new.table old.helper.service call.new.self was.stands.served step call.ensures.agrees in
     let stands = served_stands means old.table call.new.table old.writers.items old.helper.service call.new.self was.stands step served in
     opened_still means old _ was stands step.setup_stays call.ensures.keeps refl refl
 

@@ -1,11 +1,11 @@
 -- A scrape is one act of the service.
-use Rattle.std.proofs.Common.{◌∙◌, refl}
+use Rattle.std.proofs.Common.{refl}
 use Rattle.chunk_plain.specs.Setup.{Setup}
 use Rattle.chunk_plain.specs.Views.{ServiceView}
+use Rattle.replay_model.proofs.ShutLemmas.{open_is}
 use Rattle.replay_host.proofs.RowLemmas.{AreLaws}
-use Rattle.replay_host.proofs.ScrapedLemmas.{scrape_done, scrapes_own}
+use Rattle.replay_host.proofs.ScrapedLemmas.{scrape_done}
 use Rattle.replay_host.proofs.ServedLemmas.{served_stands, served_is, opened_still}
-use Rattle.replay_host.proofs.TakenLemmas.{open_is}
 use Rattle.replay_host.proofs.serving.Host+W+W+Writer+W+Service.scrape.Goals as goal
 
 pub returns-clause-host : goal.returns-clause-host
@@ -14,10 +14,9 @@ returns-clause-host g c =
     let was = c.requires.host in
     let setup : Setup = means.setup c.args.self.now.table in
     let step = c.scrape.ensures.step in
-    let own = scrapes_own setup c.args.producer c.scrape.result _ _ c.scrape.ensures.scrapes ∙ was.stands.served.own in
     let old = c.args.self.now in
     let new = c.scrape.new in
-    let served = served_is means old.table new.table old.helper.service new.self was.stands.served step c.scrape.ensures.agrees own in
+    let served = served_is means old.table new.table old.helper.service new.self was.stands.served step c.scrape.ensures.agrees in
     let stands = served_stands means old.table new.table old.writers.items old.helper.service new.self was.stands step served in
     opened_still means old _ was stands step.setup_stays c.scrape.ensures.keeps refl refl
 
@@ -42,7 +41,7 @@ returns-clause-done g c intake =
     let old = c.args.self.now in
     let setup : Setup = means.setup old.table in
     let view : ServiceView = means.service_view old.table old.helper.service.seat in
-    let opened = open_is setup view old.helper.service c.args.producer was.stands.served.agrees was.stands.served.own
+    let opened = open_is setup view old.helper.service c.args.producer was.stands.served.agrees
     (was.opened c.args.producer c.requires.producer c.requires.open) in
     let done = c.scrape.ensures in
     scrape_done means laws c.args.producer c.scrape.result old _ was.stands
