@@ -5,7 +5,7 @@ use Rattle.std.proofs.lemmas.Bool.{cases_eq, eq-eqb, ne_eqb, true≢false}
 use Rattle.chunk_plain.specs.Setup.{Setup, producer_of, range_of}
 use Rattle.chunk_plain.specs.Views.{ServiceView, taken_of}
 use Rattle.scenario_text.specs.declared.scenario.LineKind.{LineKind}
-use Rattle.scenario_text.specs.declared.scenario.LineKind.TheVariants.{Packet, Begin, Add, Nest, Unnest, End, Flush, Collect, Scrape, Close, Read, Request, CloneBuffer}
+use Rattle.scenario_text.specs.declared.scenario.LineKind.TheVariants.{Packet, Begin, Add, Nest, Unnest, End, Flush, Collect, Scrape, Close, Read, Request, CloneBuffer, Raw}
 use Rattle.scenario_text.specs.declared.scenario.NumberedLine.{NumberedLine}
 use Rattle.run_model.specs.Collected.{CollectedByLines, collects, has_asker, is_collected_by, may_be_collected, taken_by_line, taken_by_lines, times_in}
 use Rattle.run_model.specs.Scraped.{scrapes, is_scraped_by}
@@ -40,6 +40,7 @@ times_none producer (Close number) others gathers parts = refl
 times_none producer (Read buffer limit) others gathers parts = refl
 times_none producer Request others gathers parts = refl
 times_none producer (CloneBuffer buffer) others gathers parts = refl
+times_none producer (Raw writer chunk) others gathers parts = refl
 
 -- a producer that no line collects or scrapes
 uncollected : (producer : ℕ) (lines : List NumberedLine) → is_collected_by lines producer ≡ false → is_scraped_by lines producer ≡ false

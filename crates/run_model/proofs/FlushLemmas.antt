@@ -1,5 +1,5 @@
 -- What an answer of a run counts is settled once it has come and is read.
-use Rattle.std.proofs.Common.{◌≡◌, ◌∙◌, ℕ, zero, suc, ◌+◌, ◌-◌, ◌*◌, ◌<◌, ◌≤◌, List, [], ◌∷◌, ◌++◌, length, map, take, drop, Some, refl, sym, ap, subst, arith, append_assoc}
+use Rattle.std.proofs.Common.{◌≡◌, ◌∙◌, ℕ, zero, suc, ◌+◌, ◌-◌, ◌*◌, ◌<◌, ◌≤◌, List, [], ◌∷◌, ◌++◌, length, map, take, drop, Some, refl, sym, ap, subst, arith, append_assoc, false}
 use Rattle.std.specs.Prelude.{slice_get}
 use Rattle.std.proofs.lemmas.Bool.{eq-eqb}
 use Rattle.std.proofs.lemmas.Option.{slice_get-get_or, same_Some}
@@ -9,7 +9,7 @@ use Rattle.page_geometry.specs.Sizes.{record_size}
 use Rattle.trace_model.specs.Buffers.{Buffer, empty_buffer}
 use Rattle.trace_model.specs.Calls.{Call, Flushed}
 use Rattle.trace_model.specs.Causes.{fixed_after}
-use Rattle.trace_model.specs.Cut.{CutsInto}
+use Rattle.trace_model.specs.Cut.{CutsInto, newest_goes_on}
 use Rattle.trace_model.specs.History as model
 use Rattle.trace_model.specs.History.{Event}
 use Rattle.trace_model.specs.Images.{Image, Patch}
@@ -22,6 +22,8 @@ use Rattle.delivery_laws.specs.DeliveryLaws.{IsAccountOf}
 use Rattle.delivery_laws.specs.FlushLaws.{arrivals_of, IsFlushed, AreSettled}
 use Rattle.delivery_laws.proofs.CompleteLemmas.{full_at}
 use Rattle.delivery_laws.proofs.FlushLemmas as delivery
+use Rattle.delivery_laws.specs.Orders.{InOrder}
+use Rattle.delivery_laws.specs.WriterSheets.{sheets_of}
 use Rattle.delivery_laws.proofs.WrittenPackets.{are_full}
 use Rattle.chunk_plain.specs.Histories.{completed_images, completed_patches, history_of}
 use Rattle.chunk_plain.specs.Setup.{Setup, sequence_of, size_of, no_writer}
@@ -40,12 +42,12 @@ use Rattle.service_core.specs.Routing.{buffer_at}
 use Rattle.replay_model.specs.Played.{buffer_specs, buffers_of, first_buffer}
 use Rattle.replay_model.specs.Written.{HasWritten}
 use Rattle.replay_model.proofs.BalanceLemmas.{first_at, each_is, get_map}
-use Rattle.replay_model.proofs.DoneLemmas.{IsDone, account_of}
+use Rattle.replay_model.proofs.DoneLemmas.{IsDone}
 use Rattle.replay_model.proofs.PageLemmas.{begins_as, pages_same}
 use Rattle.replay_model.proofs.PlayedLemmas.{setup_writers}
 use Rattle.replay_model.proofs.PlayedOnLemmas.{flush_packets}
 use Rattle.run_model.specs.FlushLaws.{IsSettledBehind, EveryRunFlushIsSettled}
-use Rattle.run_model.proofs.RunLemmas.{laid_out, is_done}
+use Rattle.run_model.proofs.RunLemmas.{laid_out, is_done, history_in_order}
 
 -- ---- lists
 
@@ -157,7 +159,9 @@ module _ (setup : Setup) (world : World) (place : ℕ) (wrote : HasWritten setup
 -- ---- the law
 
 module _ (scenario : Parts) (setup : Setup) (world : World) (done : IsDone scenario setup world)
-    (set_up : IsSetUp scenario.buffers scenario.producers scenario.writers) (place : ℕ) (inside : place < length setup.writers) where
+    (set_up : IsSetUp scenario.buffers scenario.producers scenario.writers) (place : ℕ) (inside : place < length setup.writers)
+    (ordered : InOrder (sheets_of (newest_goes_on (packets_of (writer world place).calls)) (done.wrote place inside).cut.cut.pages) (place + 2) 0 false []
+    (history_of world.service)) where
   there : slice_get setup.writers place ≡ Some (spec_at setup.writers place)
   there = slice_get-get_or setup.writers place no_writer inside
 
@@ -195,7 +199,13 @@ module _ (scenario : Parts) (setup : Setup) (world : World) (done : IsDone scena
   account =
       let set = set_at setup place (spec_at setup.writers place) there (spec_at setup.writers place).buffer in
       let own = eq-eqb (spec_at setup.writers place).buffer (spec_at setup.writers place).buffer refl in
-      account_of scenario setup world done place inside sequences held_size (set.known ∙ own) (set.start own)
+      record {
+        possible = (done.wrote place inside).cut.possible;
+        cut = (done.wrote place inside).cut.cut.cut;
+        known = set.known ∙ own;
+        start = set.start own;
+        order = ordered;
+      }
 
   pub answer_settled : (answer : Reply) → IsAnsweredCut (payload_at setup place) (sequence_of place) (writer world place) answer
       → (early later : List Event) (limit : ℕ) → history_of world.service ≡ early ++ model.Read (sequence_of place) limit ∷ later
@@ -224,5 +234,7 @@ module _ (scenario : Parts) (setup : Setup) (world : World) (done : IsDone scena
 pub every_run_flush_is_settled : EveryRunFlushIsSettled
 every_run_flush_is_settled scenario setup world run set_up place n answer inside there early later limit history come enough =
     let done = run.before.done in
-    answer_settled scenario setup world (is_done scenario setup world _ done (laid_out scenario setup done.setup_is set_up)) set_up place inside answer
+    let laid = laid_out scenario setup done.setup_is set_up in
+    answer_settled scenario setup world (is_done scenario setup world _ done laid) set_up place inside
+    (history_in_order scenario setup world _ done laid place inside) answer
     ((done.writers place inside).answers n answer there) early later limit history come enough

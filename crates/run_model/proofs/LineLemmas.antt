@@ -14,7 +14,7 @@ use Rattle.chunk_plain.specs.Setup.{Setup, producer_of, range_of}
 use Rattle.chunk_plain.specs.Views.{ServiceView, Taken, none_taken, taken_of}
 use Rattle.chunk_plain.proofs.MadeLemmas.{all_same}
 use Rattle.scenario_text.specs.declared.scenario.LineKind.{LineKind}
-use Rattle.scenario_text.specs.declared.scenario.LineKind.TheVariants.{Packet, Begin, Add, Nest, Unnest, End, Flush, Collect, Scrape, Close, Read, Request, CloneBuffer}
+use Rattle.scenario_text.specs.declared.scenario.LineKind.TheVariants.{Packet, Begin, Add, Nest, Unnest, End, Flush, Collect, Scrape, Close, Read, Request, CloneBuffer, Raw}
 use Rattle.scenario_text.specs.declared.scenario.NumberedLine.{NumberedLine}
 use Rattle.service_core.specs.Scraping.{TakesAndScrapes}
 use Rattle.service_core.specs.Taking.{Takes, places_of}
@@ -169,6 +169,8 @@ line_at_most setup first lines producers (Close number) old new plays bounded =
     still_at_most setup lines producers old new (ap (λ (v : ServiceView). v.taken) plays) bounded
 line_at_most setup first lines producers (CloneBuffer buffer) old new plays bounded =
     still_at_most setup lines producers old new (ap (λ (v : ServiceView). v.taken) plays) bounded
+line_at_most setup first lines producers (Raw writer chunk) old new plays bounded =
+    still_at_most setup lines producers old new (ap (λ (v : ServiceView). v.taken) plays) bounded
 
 lines_at_most : (setup : Setup) (first : List Buffer) (scenario lines : List NumberedLine) (producers : List ℕ) (old new : ServiceView)
     → PlaysLines setup first scenario lines old new → TakenAtMost setup scenario producers old
@@ -203,6 +205,7 @@ taken_by_service (line ∷ lines) = by_kind line.what refl (taken_by_service lin
     by_kind (Flush writer) is rest = rest
     by_kind (Close producer) is rest = rest
     by_kind (CloneBuffer buffer) is rest = rest
+    by_kind (Raw writer chunk) is rest = rest
 
 nothing_taken : (setup : Setup) (lines : List NumberedLine) → TakenAtMost setup lines [] (first_world setup).service
 nothing_taken setup lines place inside nobody =

@@ -58,7 +58,7 @@ module _ (scenario : Parts) (setup : Setup) (world : World) (closed : Bool) (don
   shape place inside = losses_change_no_shape (calls_asked (suc place) scenario.lines) (writer world place).calls (done.writers place inside).lose
 
   -- one that stalls for ever loses no packet
-  loses_by : (place : ℕ) → place < length setup.writers → 0 < lost_count (packets_of (writer world place).calls)
+  pub loses_by : (place : ℕ) → place < length setup.writers → 0 < lost_count (packets_of (writer world place).calls)
       → loses (spec_at setup.writers place).policy ≡ true
   loses_by place inside some = by_policy (spec_at setup.writers place).policy refl
     where
@@ -82,7 +82,7 @@ module _ (scenario : Parts) (setup : Setup) (world : World) (closed : Bool) (don
 
   -- ---- all of them
 
-  pub is_done : IsLaid setup → IsDone scenario setup world
+  abbrev pub is_done : IsLaid setup → IsDone scenario setup world
   is_done laid = record {
     setup_is = done.setup_is;
     many = done.many;
@@ -91,5 +91,5 @@ module _ (scenario : Parts) (setup : Setup) (world : World) (closed : Bool) (don
     loses_by = loses_by;
     claims = λ place inside. (done.writers place inside).between.agrees.claims;
     wrote = wrote laid;
-    order = history_in_order laid;
+    order = λ place inside none. history_in_order laid place inside;
   }

@@ -14,6 +14,7 @@ use Rattle.scenario_text.specs.declared.scenario.NumberedLine.{NumberedLine}
 use Rattle.scenario_text.specs.Scenario.{Parts}
 use Rattle.scenario_text.specs.Limits.{IsSetUp}
 use Rattle.scenario_text.specs.Emissions.{emitted_in}
+use Rattle.scenario_text.specs.Raws.{HasNoRaw}
 use Rattle.replay_model.specs.Enough.{HasEnough, IsPlayable}
 use Rattle.replay_model.specs.Played.{records_in, packet_counts, AreBalanced, CountsPackets}
 use Rattle.run_model.specs.Collected.{CollectedByLines, may_be_collected}
@@ -36,13 +37,13 @@ EveryStoppedRunIsFaithful = (scenario : Parts) (setup : Setup) (world : World) (
 abbrev pub EveryRunIsBalanced : Type 0
 EveryRunIsBalanced = (scenario : Parts) (setup : Setup) (world : World) → IsRun scenario setup world
     → length scenario.lines ≤ last_count → IsSetUp scenario.buffers scenario.producers scenario.writers
-    → AreBalanced (packet_counts scenario setup world)
+    → AreBalanced scenario.lines (packet_counts scenario setup world)
 
 -- Its counts are those of the packets' outcomes.
 abbrev pub EveryRunCountsPackets : Type 0
 EveryRunCountsPackets = (scenario : Parts) (setup : Setup) (world : World) → IsRun scenario setup world
     → length scenario.lines ≤ last_count → IsSetUp scenario.buffers scenario.producers scenario.writers
-    → (place : ℕ) (counts : PacketCounts) → slice_get (packet_counts scenario setup world) place ≡ Some counts
+    → (place : ℕ) (counts : PacketCounts) → HasNoRaw scenario.lines place → slice_get (packet_counts scenario setup world) place ≡ Some counts
     → CountsPackets scenario setup world place counts
 
 -- Where chunks and bytes are enough, no packet that the lines have writers emit is missing.

@@ -7,6 +7,7 @@ use Rattle.chunk_plain.specs.Setup.{Setup}
 use Rattle.chunk_plain.specs.World.{World}
 use Rattle.scenario_text.specs.Scenario.{Parts}
 use Rattle.scenario_text.specs.Emissions.{emitted_in}
+use Rattle.scenario_text.specs.Raws.{HasNoRaw}
 use Rattle.replay_model.specs.Enough.{HasEnough}
 use Rattle.replay_model.specs.Played.{records_in, packet_counts, report_with, AreBalanced, CountsPackets}
 use Rattle.run_model.specs.Answered.{run_sums}
@@ -24,8 +25,9 @@ pub record Runs (scenario : Parts) (old new : Intake) (text : List ℕ) : Type 0
   pub trace : new ≡ after_told old (trace_of (records_in scenario setup world))
   pub report : text ≡ report_with scenario setup world (run_sums (length setup.writers) world.service.letters)
   pub faithful : IsFaithful (emitted_in scenario) (records_in scenario setup world)
-  pub balanced : AreBalanced (packet_counts scenario setup world)
-  pub counted : (place : ℕ) (counts : PacketCounts) → slice_get (packet_counts scenario setup world) place ≡ Some counts
+  pub balanced : AreBalanced scenario.lines (packet_counts scenario setup world)
+  pub counted : (place : ℕ) (counts : PacketCounts) → HasNoRaw scenario.lines place
+      → slice_get (packet_counts scenario setup world) place ≡ Some counts
       → CountsPackets scenario setup world place counts
   pub complete : HasEnough scenario → IsComplete (emitted_in scenario) (records_in scenario setup world)
 

@@ -2,7 +2,7 @@
 use Rattle.std.proofs.Common.{◌≡◌, ◌≤◌, ◌+◌, ◌-◌, ℕ, suc, List, [], ◌∷◌, ◌++◌, refl, arith}
 use Rattle.trace_model.specs.Counts.{raised, last_count}
 use Rattle.scenario_text.specs.declared.scenario.LineKind.{LineKind}
-use Rattle.scenario_text.specs.declared.scenario.LineKind.TheVariants.{Packet, Begin, Add, Nest, Unnest, End, Flush, Collect, Scrape, Close, Read, Request, CloneBuffer}
+use Rattle.scenario_text.specs.declared.scenario.LineKind.TheVariants.{Packet, Begin, Add, Nest, Unnest, End, Flush, Collect, Scrape, Close, Read, Request, CloneBuffer, Raw}
 use Rattle.scenario_text.specs.declared.scenario.NumberedLine.{NumberedLine}
 use Rattle.replay_model.specs.Flushes.{request_count, requests_in}
 
@@ -34,3 +34,4 @@ none_requested (Close producer) not = refl
 none_requested (Read buffer limit) not = refl
 none_requested Request not = absurd (not refl)
 none_requested (CloneBuffer buffer) not = refl
+none_requested (Raw writer chunk) not = refl

@@ -13,7 +13,8 @@ use Rattle.chunk_words.specs.Sits.{setup_in, known_by}
 use Rattle.scenario_text.specs.Scenario.{Parts}
 use Rattle.service_core.specs.Agreement.{KeepsRest, is_closed}
 use Rattle.service_core.specs.Order.{LeadTo, beginning}
-use Rattle.replay_host.proofs.TakenLemmas.{open_is, none_committed}
+use Rattle.replay_model.proofs.RawLemmas.{none_committed_yet}
+use Rattle.replay_model.proofs.ShutLemmas.{open_is}
 use Rattle.replay_model.specs.Does.{is_shut}
 use Rattle.run_model.specs.Settled.{HasDoneLines, HasDoneAll, last_flushes}
 use Rattle.thread_service.specs.declared.service.Service.{Service}
@@ -38,7 +39,7 @@ pub opened_here : (scenario : Parts) (settled : Settled) → IsSettled scenario 
     → is_shut (sequence_of place) (view_in settled.service).events ≡ false
 opened_here scenario settled is place inside =
     let setup = setup_in settled.table in
-    open_is setup (view_in settled.service) (core_of settled.service) (producer_of setup place) is.served.serves.agrees is.served.own
+    open_is setup (view_in settled.service) (core_of settled.service) (producer_of setup place) is.served.serves.agrees
     (λ other below same. is.served.opened other below) place inside refl
 
 -- and all are where all producers were
@@ -127,7 +128,7 @@ module _ (scenario : Parts) (settled : Settled) (is : IsSettled scenario settled
           (record { come = (taken_of (view_in final) place).count; closed = closed; due = [] })
       order_here place inside =
           subst (λ (b : Bool). LeadTo view (sequence_of place) beginning view.events (record { come = (taken_of view place).count; closed = b; due = [] }))
-          (all_closed place inside) (serves.agrees.order place inside (none_committed view (sequence_of place) own))
+          (all_closed place inside) (serves.agrees.order place inside (none_committed_yet view (sequence_of place) own))
 
       abbrev pub done_all : HasDoneAll scenario (setup_in settled.table) (record { chunks = []; writers = views_of settled.seats.items; service = view_in final }) closed
       done_all = record {

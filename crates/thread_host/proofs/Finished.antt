@@ -1,5 +1,5 @@
 -- Once all is closed, read and taken apart, what the seats knew is a run of the scenario, and what was counted is its report.
-use Rattle.std.proofs.Common.{◌≡◌, ◌∙◌, ℕ, ◌<◌, List, [], length, map, sym, ap, subst}
+use Rattle.std.proofs.Common.{◌≡◌, ◌∙◌, ℕ, ◌<◌, List, [], length, map, sym, ap, subst, append-nil, ◌++◌}
 use Rattle.std.specs.Prelude.{slice_index_or}
 use Rattle.byte_io.specs.Bytes.{Intake}
 use Rattle.trace_buffer.specs.Answers as answers
@@ -12,6 +12,7 @@ use Rattle.chunk_words.specs.Closed.{HasAllSeats, IsAccount, AllTaken, views_of}
 use Rattle.chunk_words.specs.GoesOn.{GoesOn}
 use Rattle.chunk_words.specs.Sits.{setup_in, known_by_pass}
 use Rattle.loss_report.specs.declared.counts.Done.{Done}
+use Rattle.loss_report.specs.Raws.{raw_text}
 use Rattle.loss_report.specs.Report.{report_text}
 use Rattle.scenario_text.specs.Scenario.{Parts}
 use Rattle.service_core.specs.Agreement.{first_of}
@@ -105,9 +106,9 @@ module _ (scenario : Parts) (settled : Settled) (is : IsSettled scenario settled
         → length done.sequences.items ≡ length (setup_in settled.table).writers
         → ((place : ℕ) → place < length (setup_in settled.table).writers → slice_index_or done.sequences.items place no_counts
         ≡ packets_in (setup_in settled.table) final place (slice_index_or settled.counts.sequences.items place no_counts))
-        → done.flushes.items ≡ settled.counts.flushes.items
+        → done.flushes.items ≡ settled.counts.flushes.items → done.raws.items ≡ []
         → HasFinished scenario settled is before after done
-    has_finished done buffers long each flushes =
+    has_finished done buffers long each flushes no_raws =
         let told = reads_out.tells.tells in
         let first = first_stays setup (core_of closed) (core_of final) ending.keeps.fields ∙ began scenario settled is closed final ending in
         record {
@@ -116,10 +117,12 @@ module _ (scenario : Parts) (settled : Settled) (is : IsSettled scenario settled
           reads = reads_out.reads;
           run = run_is;
           taken = told.taken;
-          report = λ balanced all_asked.
-              ap (λ all. report_text all done.sequences.items done.flushes.items) buffers
+          report = λ none balanced all_asked.
+              ap (λ raws. report_text done.buffers.items done.sequences.items done.flushes.items ++ raw_text raws) no_raws
+              ∙ append-nil (report_text done.buffers.items done.sequences.items done.flushes.items)
+              ∙ ap (λ all. report_text all done.sequences.items done.flushes.items) buffers
               ∙ ap (λ all. report_text (map answers.counts_of (counting.buffers_in setup final)) done.sequences.items all)
               (flushes ∙ is.flushes all_asked ∙ ap (run_sums (length setup.writers)) (sym letters))
-              ∙ report_is scenario setup is.laid settled.seats.items is.many final first balanced settled.counts.sequences.items done.sequences.items long
+              ∙ report_is scenario setup is.laid settled.seats.items is.many final first none balanced settled.counts.sequences.items done.sequences.items long
               (λ place seat there. (is.done place seat there).counts_are) each (run_sums (length setup.writers) (view_in final).letters);
         }

@@ -38,6 +38,7 @@ calls_named number (line.Close producer) = refl
 calls_named number (line.Read buffer limit) = refl
 calls_named number line.Request = refl
 calls_named number (line.CloneBuffer buffer) = refl
+calls_named number (line.Raw writer chunk) = refl
 
 -- ---- the lines of a writer
 

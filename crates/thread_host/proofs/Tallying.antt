@@ -25,7 +25,9 @@ use Rattle.service_core.specs.Agreement.{first_of, buffer_of, spec_at, spec_valu
 use Rattle.service_core.specs.Routing.{buffer_at}
 use Rattle.service_core.proofs.RouteLemmas.{length_after}
 use Rattle.replay_model.specs.Played.{IsSetupOf, buffers_of, buffers_in as buffers_of_world, packet_counts, printed, report_with, AreBalanced}
-use Rattle.replay_model.proofs.BalanceLemmas.{count_at}
+use Rattle.replay_model.proofs.BalanceLemmas.{count_at, own_counts}
+use Rattle.replay_model.proofs.RawLemmas.{none_has_raw}
+use Rattle.scenario_text.specs.Raws.{HasNoRaw, RawsNone}
 use Rattle.replay_model.proofs.PlayedLemmas.{setup_writers}
 use Rattle.replay_host.proofs.CountingLemmas.{left_is, map_each, counts_long, left_in}
 use Rattle.thread_service.specs.declared.service.Service.{Service}
@@ -54,15 +56,16 @@ module _ (scenario : Parts) (setup : Setup) (laid : IsSetupOf scenario setup) (s
   buffers_are = ap (λ (buffers : List Buffer). buffers_after buffers (history_of (view_in service))) first
 
   -- the counts of a writer are those of the report
-  packets_are : AreBalanced (packet_counts scenario setup (record { chunks = []; writers = views_of seats; service = view_in service }))
+  packets_are : RawsNone scenario.lines
+      → AreBalanced scenario.lines (packet_counts scenario setup (record { chunks = []; writers = views_of seats; service = view_in service }))
       → (place : ℕ) (calls : List Call) (counts : PacketCounts)
       → (writer (record { chunks = []; writers = views_of seats; service = view_in service }) place).calls ≡ calls
       → slice_get (packet_counts scenario setup (record { chunks = []; writers = views_of seats; service = view_in service })) place ≡ Some counts
       → packets_in setup service place (begun_counts calls) ≡ printed counts
-  packets_are balanced place calls counts row get =
+  packets_are none balanced place calls counts row get =
+      let own : HasNoRaw scenario.lines place = none_has_raw scenario.lines place none in
       let buffers : List Buffer = buffers_of_world scenario setup world in
-      let count = count_at buffers world 0 scenario.writers place counts get in
-      let here : 0 + place ≡ place = omega arith in
+      let count = count_at scenario.lines buffers world 0 scenario.writers place counts get in
       let spec_is : spec_at setup.writers place ≡ count.spec =
       ap (λ (specs : List WriterSpec). spec_at specs place) (setup_writers scenario setup laid)
       ∙ get_or_from_slice_get scenario.writers place count.spec no_writer count.get in
@@ -70,9 +73,8 @@ module _ (scenario : Parts) (setup : Setup) (laid : IsSetupOf scenario setup) (s
       let number : ℕ = count.spec.buffer - 1 in
       let counts_is : counts ≡ counts_of (buffer_at buffers number).policy (writer world place).calls
       (sequence_in (buffer_at buffers number).sequences (sequence_of place)) =
-      count.is ∙ ap (λ (p : ℕ). counts_of (buffer_at buffers number).policy (writer world p).calls
-      (sequence_in (buffer_at buffers number).sequences (sequence_of p))) here in
-      let one = subst IsBalanced counts_is (balanced place counts get) in
+      own_counts scenario.lines buffers world scenario.writers place counts own count in
+      let one = subst IsBalanced counts_is (balanced place counts own get) in
       ap (λ (all : List Buffer). left_in place all (buffer_of setup place - 1) calls) buffers_are
       ∙ ap (λ (n : ℕ). left_in place buffers n calls) index
       ∙ ap (λ (cs : List Call). left_in place buffers number cs) (sym row)
@@ -81,15 +83,16 @@ module _ (scenario : Parts) (setup : Setup) (laid : IsSetupOf scenario setup) (s
       ∙ ap printed (sym counts_is)
 
   -- and so are all of them
-  sequences_are : AreBalanced (packet_counts scenario setup (record { chunks = []; writers = views_of seats; service = view_in service }))
+  sequences_are : RawsNone scenario.lines
+      → AreBalanced scenario.lines (packet_counts scenario setup (record { chunks = []; writers = views_of seats; service = view_in service }))
       → (told items : List SequenceCounts) → length items ≡ length setup.writers
       → ((place : ℕ) (seat : WriterSeat) → slice_get seats place ≡ Some seat → slice_index_or told place no_counts ≡ begun_counts (known_by seat).calls)
       → ((place : ℕ) → place < length setup.writers
       → slice_index_or items place no_counts ≡ packets_in setup service place (slice_index_or told place no_counts))
       → items ≡ map printed (packet_counts scenario setup (record { chunks = []; writers = views_of seats; service = view_in service }))
-  sequences_are balanced told items long begun each =
+  sequences_are none balanced told items long begun each =
       let writers = ap (λ (specs : List WriterSpec). length specs) (setup_writers scenario setup laid) in
-      let wide = counts_long (buffers_of_world scenario setup world) world 0 scenario.writers in
+      let wide = counts_long scenario.lines (buffers_of_world scenario setup world) world 0 scenario.writers in
       map_each printed (packet_counts scenario setup world) items (omega (arith, long, writers, wide))
       (λ place counts d get.
       let within = slice_get_within (packet_counts scenario setup world) place counts get in
@@ -98,17 +101,18 @@ module _ (scenario : Parts) (setup : Setup) (laid : IsSetupOf scenario setup) (s
       inside_same items place d (omega (arith, inside, long))
       ∙ each place inside
       ∙ ap (packets_in setup service place) (begun place here.seat here.there)
-      ∙ packets_are balanced place (known_by here.seat).calls counts (ap (λ (v : WriterView). v.calls) here.view) get)
+      ∙ packets_are none balanced place (known_by here.seat).calls counts (ap (λ (v : WriterView). v.calls) here.view) get)
 
   -- The report of what was counted is that of the world.
-  pub report_is : AreBalanced (packet_counts scenario setup (record { chunks = []; writers = views_of seats; service = view_in service }))
+  pub report_is : RawsNone scenario.lines
+      → AreBalanced scenario.lines (packet_counts scenario setup (record { chunks = []; writers = views_of seats; service = view_in service }))
       → (told items : List SequenceCounts) → length items ≡ length setup.writers
       → ((place : ℕ) (seat : WriterSeat) → slice_get seats place ≡ Some seat → slice_index_or told place no_counts ≡ begun_counts (known_by seat).calls)
       → ((place : ℕ) → place < length setup.writers
       → slice_index_or items place no_counts ≡ packets_in setup service place (slice_index_or told place no_counts))
       → (sums : List ℕ) → report_text (map answers.counts_of (buffers_in setup service)) items sums
       ≡ report_with scenario setup (record { chunks = []; writers = views_of seats; service = view_in service }) sums
-  report_is balanced told items long begun each sums =
+  report_is none balanced told items long begun each sums =
       ap (λ all. report_text (map answers.counts_of all) items sums) buffers_are
       ∙ ap (λ all. report_text (map answers.counts_of (buffers_of_world scenario setup world)) all sums)
-      (sequences_are balanced told items long begun each)
+      (sequences_are none balanced told items long begun each)

@@ -13,7 +13,7 @@ use Rattle.chunk_plain.specs.Histories.{history_of}
 use Rattle.chunk_plain.specs.Setup.{Setup}
 use Rattle.chunk_plain.specs.Views.{Noted, ServiceView, asked_in}
 use Rattle.scenario_text.specs.declared.scenario.LineKind.{LineKind}
-use Rattle.scenario_text.specs.declared.scenario.LineKind.TheVariants.{Packet, Begin, Add, Nest, Unnest, End, Flush, Collect, Scrape, Close, Read, Request, CloneBuffer}
+use Rattle.scenario_text.specs.declared.scenario.LineKind.TheVariants.{Packet, Begin, Add, Nest, Unnest, End, Flush, Collect, Scrape, Close, Read, Request, CloneBuffer, Raw}
 use Rattle.scenario_text.specs.declared.scenario.NumberedLine.{NumberedLine}
 use Rattle.service_core.specs.declared.service.ServiceCore.{ServiceCore}
 use Rattle.service_core.specs.Agreement.{first_of}
@@ -339,6 +339,7 @@ none_read setup (Close producer) not buffers = refl
 none_read setup (Read buffer limit) not buffers = absurd (not buffer limit refl)
 none_read setup Request not buffers = refl
 none_read setup (CloneBuffer buffer) not buffers = refl
+none_read setup (Raw writer chunk) not buffers = refl
 
 pub unread_tells : (setup : Setup) (first : List Buffer) (line : LineKind) (view : ServiceView) (taken : Intake)
     → ((buffer limit : ℕ) → line ≡ Read buffer limit → ⊥) → (line ≡ Request → ⊥) → TellsLine setup first line view view taken taken

@@ -14,7 +14,7 @@ use Rattle.chunk_plain.specs.Setup.{Setup}
 use Rattle.chunk_plain.specs.Views.{At, ServiceView}
 use Rattle.chunk_plain.proofs.Lists.{at_seam}
 use Rattle.scenario_text.specs.declared.scenario.LineKind.{LineKind}
-use Rattle.scenario_text.specs.declared.scenario.LineKind.TheVariants.{Packet, Begin, Add, Nest, Unnest, End, Flush, Collect, Scrape, Close, Read, Request, CloneBuffer}
+use Rattle.scenario_text.specs.declared.scenario.LineKind.TheVariants.{Packet, Begin, Add, Nest, Unnest, End, Flush, Collect, Scrape, Close, Read, Request, CloneBuffer, Raw}
 use Rattle.scenario_text.specs.declared.scenario.NumberedLine.{NumberedLine}
 use Rattle.service_core.specs.Reading.{noted_read}
 use Rattle.service_core.specs.Taking.{noted_more}
@@ -256,3 +256,4 @@ none_own (End writer) collects scrapes reads requests turns = omega arith
 none_own (Flush writer) collects scrapes reads requests turns = omega arith
 none_own (Close producer) collects scrapes reads requests turns = omega arith
 none_own (CloneBuffer buffer) collects scrapes reads requests turns = omega arith
+none_own (Raw writer chunk) collects scrapes reads requests turns = omega arith

@@ -17,6 +17,7 @@ use Rattle.chunk_words.specs.Sits.{setup_in, known_by_pass}
 use Rattle.loss_report.specs.declared.counts.Done.{Done}
 use Rattle.scenario_text.specs.declared.scenario.NumberedLine.{NumberedLine}
 use Rattle.scenario_text.specs.declared.scenario.Scenario.{Scenario}
+use Rattle.scenario_text.specs.Raws.{RawsNone}
 use Rattle.scenario_text.specs.Scenario.{IsScenario, Parts, parts_of}
 use Rattle.service_core.proofs.ReadingLemmas.{trace_append}
 use Rattle.replay_model.specs.Flushes.{requests_in}
@@ -69,6 +70,7 @@ is_there P None holds = absurd holds
 
 module _ (faithful : EveryRunIsFaithful) (balanced : EveryRunIsBalanced) (counted : EveryRunCountsPackets) (complete : EveryEnoughRunIsComplete) where
   pub has_run : (scenario : Scenario) (settled : Settled) (settles : IsSettled (parts_of scenario) settled) (first : ServiceView) (before between after : Intake) (done : Done) → IsScenario scenario
+      → RawsNone (parts_of scenario).lines
       → first.events ≡ []
       → TellsLines (setup_in settled.table) (buffers_of (parts_of scenario) (setup_in settled.table)) (parts_of scenario).lines
       first (known_by_pass settled.pass) before between
@@ -77,7 +79,7 @@ module _ (faithful : EveryRunIsFaithful) (balanced : EveryRunIsBalanced) (counte
       → PlaysAll (setup_in settled.table) (buffers_of (parts_of scenario) (setup_in settled.table)) (parts_of scenario).lines (first_world (setup_in settled.table)).service
       settles.stood.service
       → HasFinished (parts_of scenario) settled settles between after done → HasRun (parts_of scenario) before after done
-  has_run scenario settled settles first before between after done is none tells unasked same_asked answered played finished =
+  has_run scenario settled settles first before between after done is no_raws none tells unasked same_asked answered played finished =
       let setup = setup_in settled.table in
       let known = known_by_pass settled.pass in
       let playable = is_playable scenario is in
@@ -104,7 +106,7 @@ module _ (faithful : EveryRunIsFaithful) (balanced : EveryRunIsBalanced) (counte
             ∙ after_told_again before (trace_of tells.tells.more) (trace_of finished.ended.more)
             ∙ ap (after_told before) (sym (trace_append tells.tells.more finished.ended.more))
             ∙ ap (λ (records : List Delivered). after_told before (trace_of records)) (sym records);
-        report = finished.report (balanced (parts_of scenario) setup world run playable.few playable.set_up) requests;
+        report = finished.report no_raws (balanced (parts_of scenario) setup world run playable.few playable.set_up) requests;
         faithful = faithful (parts_of scenario) setup world run;
         balanced = balanced (parts_of scenario) setup world run playable.few playable.set_up;
         counted = counted (parts_of scenario) setup world run playable.few playable.set_up;

@@ -14,7 +14,8 @@ use Rattle.chunk_plain.specs.World.{World}
 use Rattle.chunk_words.specs.Closed.{IsAccount, views_of}
 use Rattle.chunk_words.specs.Sits.{setup_in, known_by_pass}
 use Rattle.loss_report.specs.declared.counts.Done.{Done}
-use Rattle.loss_report.specs.Report.{report_text}
+use Rattle.loss_report.specs.Raws.{done_text}
+use Rattle.scenario_text.specs.Raws.{RawsNone}
 use Rattle.scenario_text.specs.Scenario.{Parts}
 use Rattle.service_core.specs.Agreement.{is_closed}
 use Rattle.service_core.specs.Reading.{noted_read}
@@ -79,7 +80,7 @@ pub record HasEnded (scenario : Parts) (settled : Settled) : Type 0 where
 -- What was settled has ended whole: behind the closes each buffer of the scenario was read in rising number, without limit, and the service
 -- knows nothing more. Where the history that the pass knew went on by the reads of the scenario's lines, all flush requests were made and answered, and
 -- the service played all its lines until the writers were done, the scenario was run. The sink took exactly the records that the world's history writes behind those that the pass knew, and the
--- counts are those of its report, where it counts each packet once and all requests were made.
+-- counts are those of its report, where no line commits a chunk, it counts each packet once and all requests were made.
 pub record HasFinished (scenario : Parts) (settled : Settled) (is : IsSettled scenario settled) (old new : Intake) (done : Done) : Type 0 where
   pub ended : HasEnded scenario settled
   pub last : List model.Event
@@ -92,9 +93,9 @@ pub record HasFinished (scenario : Parts) (settled : Settled) (is : IsSettled sc
       is.stood.service
       → IsRun scenario (setup_in settled.table) ended.world
   pub taken : new ≡ after_told old (trace_of ended.more)
-  pub report : AreBalanced (packet_counts scenario (setup_in settled.table) ended.world)
+  pub report : RawsNone scenario.lines → AreBalanced scenario.lines (packet_counts scenario (setup_in settled.table) ended.world)
       → asked_in (view_in settled.service).letters ≡ requests_in scenario.lines
-      → report_text done.buffers.items done.sequences.items done.flushes.items
+      → done_text done
       ≡ report_with scenario (setup_in settled.table) ended.world (run_sums (length (setup_in settled.table).writers) ended.world.service.letters)
 
 -- A write failed at the end: behind the closes the buffers of the scenario were read in rising number as far as this record, each without
@@ -127,7 +128,7 @@ pub record HasLetGo (scenario : Parts) (settled : Settled) (is : IsSettled scena
 
 -- the scenario was run, and these are the counts of its report
 abbrev pub HasRun : Parts → (old new : Intake) → Done → Type 0
-HasRun scenario old new done = Runs scenario old new (report_text done.buffers.items done.sequences.items done.flushes.items)
+HasRun scenario old new done = Runs scenario old new (done_text done)
 
 -- How a run ends: whole, or where memory is too little, before anything is written, or where a write failed. No writer ends stalled.
 abbrev pub EndsRun : Parts → Result Done HostFault → (old new : Intake) → Type 0

@@ -123,6 +123,7 @@ pub record IsHost (scenario : Parts) (host : Host) : Type 0 where
   pub buffers : vec_len host.counts.buffers ≡ length scenario.buffers
   pub sequences : vec_len host.counts.sequences ≡ length scenario.writers
   pub flushes : host.counts.flushes.items ≡ []
+  pub raws : host.counts.raws.items ≡ []
 
 -- ---- all settled
 
@@ -156,6 +157,7 @@ pub record IsSettled (scenario : Parts) (settled : Settled) : Type 0 where
   pub sequences : vec_len settled.counts.sequences ≡ length scenario.writers
   pub flushes : asked_in (serving.view_in settled.service).letters ≡ requests_in scenario.lines
       → settled.counts.flushes.items ≡ run_sums (length (setup_in settled.table).writers) (serving.view_in settled.service).letters
+  pub raws : settled.counts.raws.items ≡ []
 
 -- So it is, and what the service knew in the world that it marked is what it knew before, and one answer more that was read of each writer.
 abbrev pub IsSettledBehind : Parts → (before : Option Service) → Settled → Type 0

@@ -5,6 +5,7 @@ ghost use Rattle.trace_model.specs.Calls.{Flushed};
 ghost use Rattle.chunk_plain.specs.Plain.{first_world};
 ghost use Rattle.chunk_plain.specs.Views.{asked_in};
 ghost use Rattle.chunk_words.specs.Sits.{setup_in, known_by_pass};
+ghost use Rattle.scenario_text.specs.Raws.{RawsNone};
 ghost use Rattle.scenario_text.specs.Scenario.{IsScenario, parts_of};
 ghost use Rattle.replay_model.specs.Played.{buffers_of};
 ghost use Rattle.run_model.specs.Lines.{PlaysAll, PlaysSome};
@@ -55,6 +56,7 @@ impl Host {
     pub fn make(alloc: Global, scenario: &Scenario) -> Result<(Host, Vec<TraceWriter>), AllocError>
         requires scenario { IsScenario scenario.now }
         requires closes { ClosesNone scenario.now.lines }
+        requires raws { RawsNone scenario.now.lines }
         ensures host { IfOk result (λ made. IsHost (parts_of scenario.now) made.0) }
         ensures fresh { IfOk result (λ made. IsSomeAnd made.0.service (λ service.
             view_in service ≡ (first_world (setup_in made.0.table)).service)) }

@@ -1,6 +1,7 @@
 //! Running a scenario whole.
 ghost use Rattle.std.specs.Prelude.{OnOk};
 ghost use Rattle.replay_host.specs.Replaying.{CountsStop};
+ghost use Rattle.scenario_text.specs.Raws.{RawsNone};
 ghost use Rattle.scenario_text.specs.Scenario.{IsScenario, parts_of};
 ghost use Rattle.thread_host.specs.Finishing.{EndsRun};
 ghost use Rattle.thread_host.specs.Hosts.{ClosesNone};
@@ -32,6 +33,7 @@ pub fn run<R: Threads + Wait + Sync, T: Sink + Send, G: Gate + Sync>(
 ) -> Result<Done, HostFault>
     requires scenario { IsScenario scenario.now }
     requires closes { ClosesNone scenario.now.lines }
+    requires raws { RawsNone scenario.now.lines }
     requires may { T.may_write out.old }
     ensures ends { EndsRun (parts_of scenario.now) result (T.taken out.old) (T.taken out.new) }
     ensures stands { KeepsLoans (T.taken out.old) (T.taken out.new) }

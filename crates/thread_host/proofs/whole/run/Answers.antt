@@ -35,7 +35,7 @@ returns-in-Ok-finish-clause-ends g c =
     c.in-Ok.ensures.fresh c.in-Ok-ran.ensures.lines (is_there _ c.run-ran.new.self.service c.run-ran.ensures.host.served) settles.1) in
     let finished = c.in-Ok-finish.ensures.done scenario settles.0 in
     has_run c.every_run_is_faithful.ensures c.every_run_is_balanced.ensures c.every_run_counts_packets.ensures c.every_enough_run_is_complete.ensures
-    c.args.scenario.now settled settles.0 first before between after c.in-Ok-finish.done c.requires.scenario c.in-Ok.ensures.unread same_table c.in-Ok.ensures.unasked
+    c.args.scenario.now settled settles.0 first before between after c.in-Ok-finish.done c.requires.scenario c.requires.raws c.in-Ok.ensures.unread same_table c.in-Ok.ensures.unasked
     (c.settle-settled.ensures.requests ∙ ap (λ (v : ServiceView). asked_in v.letters) (sym c.settle-settled.ensures.pass)) answers lines finished
 
 pub returns-in-Err-finish-clause-ends : goal.returns-in-Err-finish-clause-ends

@@ -192,6 +192,7 @@ returns c =
         sequences = let made = c.in_ok-counts.ensures.sequences in
             let asked = c.len-2.ensures in let long = scenario.writers.ok.0 in omega (arith, made, asked, long);
         flushes = c.in_ok-counts.ensures.flushes;
+        raws = c.in_ok-counts.ensures.raws;
       };
       fresh = seen;
       writers = are_ready scenario c.requires.scenario c.requires.closes table c.fill_writers.new.writers.items laid

@@ -37,6 +37,7 @@ returns-clause-host g c =
       buffers = host.buffers;
       sequences = host.sequences;
       flushes = host.flushes;
+      raws = host.raws;
     }
 
 pub returns-clause-played : goal.returns-clause-played

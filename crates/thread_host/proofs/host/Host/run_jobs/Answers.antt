@@ -117,6 +117,7 @@ returns-clause-host g c =
       buffers = host.buffers;
       sequences = host.sequences;
       flushes = host.flushes;
+      raws = host.raws;
     }
 
 pub returns-clause-grows : goal.returns-clause-grows

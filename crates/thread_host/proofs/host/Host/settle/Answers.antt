@@ -192,6 +192,7 @@ returns-clause-settled c scenario host played =
             ap (λ (v : _). v.items) c.into_sums.ensures
             ∙ sums_are (requests_in scenario.lines) (length (setup_in table).writers) heard_view.letters c.read_answers.new.tally tally (sym (ap asked_in letters_same) ∙ all)
             ∙ ap (run_sums writers) (sym letters_same);
+        raws = host.raws;
       },
       subst (λ (o : Option Service). IfSome o (λ service. IsHearing writers (serving.view_in service) marks.world.service)) (sym c.in-Some.is)
           (subst (λ (v : ServiceView). IsHearing writers (serving.view_in first) v) (sym (marks.view_is ∙ c.compare.ensures.view)) hears),

@@ -91,14 +91,14 @@ returns-in-Ok-clause-done g c scenario is =
     (record { closes = closing.closes; all_closed = closing.closed; first = closing.first; keeps = c.in-Ok.ensures.keeps; serves = serves })
     c.read_all.new.pass (g.T.Sink.taken c.args.out.now) (g.T.Sink.taken c.read_all.new.out) c.len.result (c.len.ensures ∙ is.buffers) c.in-Ok.ensures.reads
     (settled_account c.args.self c.read_all.new.service (c.in-Ok.ensures.marks ∙ ap (λ (d : Desk). d.marks) closing.desk) c.take_apart.ensures.account) c.take_apart.ensures.taken c.take_apart.ensures.goes_on c.in-Ok.ensures.known
-    (record { buffers = with_items counts.buffers buffers; sequences = with_items counts.sequences sequences; flushes = counts.flushes })
+    (record { buffers = with_items counts.buffers buffers; sequences = with_items counts.sequences sequences; flushes = counts.flushes; raws = counts.raws })
     (with_items_is counts.buffers buffers (counted ∙ sym is.buffers) ∙ c.count_buffers.ensures table serves)
     (ap (λ (xs : List SequenceCounts). length xs) same ∙ wide)
     (λ place inside.
     ap (λ (xs : List SequenceCounts). slice_index_or xs place no_counts) same
     ∙ c.count_sequences.ensures.each table serves place (omega (arith, inside, wide, long))
     ∙ ap (λ (xs : List SequenceCounts). packets_in setup final place (slice_index_or xs place no_counts)) c.deref_mut-in-Ok.ensures.value)
-    refl
+    refl is.raws
 
 pub take_apart-requires-in-Err-clause-seats : goal.take_apart-requires-in-Err-clause-seats
 take_apart-requires-in-Err-clause-seats g c =
