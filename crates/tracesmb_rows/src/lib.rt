@@ -16,6 +16,8 @@ mod fields;
 mod first_ids;
 pub mod play;
 #[cfg(test)]
+mod raws;
+#[cfg(test)]
 mod rows;
 #[cfg(test)]
 mod scenarios;

@@ -123,7 +123,7 @@ static BEHIND_SET_UP: [(&[u8], &[u8]); 86] = [
     (b"b 1\nk 1\ne 1\nx 1\nk 1\n", b""),
     (b"k 1\nk 1\nk 1\nk 1\n", b""),
     (b"k 1\nk 1\nk 1\nk 1\nk 2\n", b"line 8: too many\n"),
-    (b"raw 1 0 1 0 1 x''\n", b"line 4: bad line\n"),
+    (b"raw 1 0 1 0 1 x'0'\n", b"line 4: bad line\n"),
     (b"q 1\n", b"line 4: bad line\n"),
     (b"r 1 \n", b"line 4: bad line\n"),
     (b"r 1 1 1\n", b"line 4: bad line\n"),
@@ -326,7 +326,7 @@ fn counts_up_to_the_limits(rt: HostRuntime) -> Result<(), AllocError> {
 
 /// A scenario with each kind of line.
 const EACH_KIND: &[u8] =
-    b"# x\nbuffer 4 discard\nbuffer 65536 ring\nproducer 64 65536 1\nproducer 1 4096 7\nwriter 2 1 stall\nwriter 1 2 stall:3 from 4294967295\nb 1\na 1 900{1:\"hi\"*2 2:7}\nn 1 8\nu 1\ne 1\n\np 2\np 2 1:5\nf 1\nc 2\ns 2\nr 1\nr 2 3\nq\nk 2\nx 2\n";
+    b"# x\nbuffer 4 discard\nbuffer 65536 ring\nproducer 64 65536 1\nproducer 1 4096 7\nwriter 2 1 stall\nwriter 1 2 stall:3 from 4294967295\nb 1\na 1 900{1:\"hi\"*2 2:7}\nn 1 8\nu 1\ne 1\n\np 2\np 2 1:5\nf 1\nc 2\ns 2\nr 1\nr 2 3\nq\nk 2\nraw 2 7 1 0 2 x'024005'\nx 2\n";
 
 /// How many nodes there are.
 fn count(fields: &Fields<'_>) -> u64 {
@@ -355,12 +355,13 @@ fn shown(what: &LineKind<'_>) -> (&'static str, u16, u64) {
         LineKind::Read { buffer, limit } => ("r", u16::from(*buffer), *limit),
         LineKind::Request => ("q", 0, 0),
         LineKind::CloneBuffer { buffer } => ("k", u16::from(*buffer), 0),
+        LineKind::Raw { writer, chunk } => ("raw", *writer, u64::from(chunk.header().chunk_id)),
     }
 }
 
 #[test]
 fn keeps_each_kind_of_line(rt: HostRuntime) {
-    let lines: [(u32, &str, u16, u64); 15] = [
+    let lines: [(u32, &str, u16, u64); 16] = [
         (8, "b", 1, 0),
         (9, "a", 1, 4),
         (10, "n", 1, 8),
@@ -375,7 +376,8 @@ fn keeps_each_kind_of_line(rt: HostRuntime) {
         (20, "r", 2, 3),
         (21, "q", 0, 0),
         (22, "k", 2, 0),
-        (23, "x", 2, 0),
+        (23, "raw", 2, 7),
+        (24, "x", 2, 0),
     ];
     let Ok(scenario) = read_scenario(rt.alloc(), EACH_KIND) else {
         panic!(rt; "a fault");

@@ -1,6 +1,6 @@
 -- What a command did for what it was given: it isn't refused, and what follows for the words that ask for it.
-use Rattle.std.proofs.Common.{arith, ◌≡◌, ℕ, ◌<◌, ◌≤◌, List, length, Option, Some, None, IfSome, subst, sym, ◌∙◌}
-use Rattle.byte_io.specs.Bytes.{Intake}
+use Rattle.std.proofs.Common.{arith, ◌≡◌, ℕ, ◌<◌, ◌≤◌, List, length, Option, Some, None, IfSome, subst, sym, ◌∙◌, ◌⊎◌, inl, inr}
+use Rattle.byte_io.specs.Bytes.{Intake, Faulted, NoFault}
 use Rattle.trace_base.specs.declared.limits.TheConstants.{MAX_INPUT}
 use Rattle.trace_file.proofs.WholeLemmas.{traces_read_once}
 use Rattle.command_words.specs.declared.command.Command.{Command}
@@ -9,6 +9,7 @@ use Rattle.scenario_text.specs.Scenario.{Parts}
 use Rattle.tracesmb_top.specs.Words.{Ask, ReadsInput, LeavesReport, PlaysByLine}
 use Rattle.tracesmb_top.specs.Commands.{IsGiven, Refuses, Writes, Wrote, WrotePart, HasStalled}
 use Rattle.tracesmb_top.specs.Refusals.{refusal_of, IsFor}
+use Rattle.tracesmb_top.specs.Answers.{Says, SaysBehind}
 use Rattle.tracesmb_top.proofs.CheckLemmas.{checked_unrefused, none_refused}
 use Rattle.tracesmb_top.proofs.WordLemmas.{same_command}
 
@@ -117,3 +118,26 @@ never_refused P words command other (Some told) given old new first second is_gi
     let refused : Refuses command told line = subst (λ (c : Command). Refuses c told line) same refuses in
     let is : given ≡ told = is_given (refused_reads command told line refused) in
     absurd (tried_unrefused command told line old new (subst (λ (g : List ℕ). IsTried command g old new) is tried) refused)
+
+-- ---- a report that was written
+
+-- a count that rose between, or stood at its last value, is no count without a fault
+rose_between : (old between new : ℕ) → between ≤ new → Faulted old between → NoFault old new → ⊥
+rose_between old between new later (inl rose) none = let still = none.0 in omega (arith, later, rose, still)
+rose_between old between new later (inr full) none = let less = none.1 in omega (arith, later, full, less)
+
+says_later : (old new : Intake) (old_faults new_faults : ℕ) (line : List ℕ) → Says old new old_faults new_faults line → old_faults ≤ new_faults
+says_later old new old_faults new_faults line (inl whole) = let same = whole.1 in omega (arith, same)
+says_later old new old_faults new_faults line (inr part) = part.1
+
+-- where the text's faults didn't rise, the report was written whole
+pub whole_reported : (words : List (List ℕ)) (command other : Command) (status : ℕ) (old new : Intake) (old_faults new_faults : ℕ) (report line : List ℕ)
+    → Ask words command → Ask words other → LeavesReport command → (status ≡ 0) ⊎ (status ≡ 5)
+    → (status ≡ 5 → SaysBehind old new old_faults new_faults report line)
+    → (LeavesReport other → NoFault old_faults new_faults) → status ≡ 0
+whole_reported words command other status old new old_faults new_faults report line first second leaves (inl whole) behind quiet = whole
+whole_reported words command other status old new old_faults new_faults report line first second leaves (inr short) behind quiet =
+    let same : other ≡ command = same_command words other command second first in
+    let none : NoFault old_faults new_faults = quiet (subst (λ (c : Command). LeavesReport c) (sym same) leaves) in
+    let is = behind short in
+    absurd (rose_between old_faults is.between_faults new_faults (says_later is.between new is.between_faults new_faults line is.says) is.faulted none)

@@ -12,7 +12,8 @@ use Rattle.replay_host.specs.declared.fault.HostFault.TheVariants.{OutOfMemory, 
 use Rattle.loss_report.specs.declared.counts.Done.{Done}
 use Rattle.replay_host.specs.Replaying.{HasReplayed, HasStopped, EndsEarly}
 use Rattle.replay_host.specs.Stopping.{TakesRecords}
-use Rattle.tracesmb_top.specs.Replayed.{TakesSome, Gathers, done_text}
+use Rattle.loss_report.specs.Raws.{done_text}
+use Rattle.tracesmb_top.specs.Replayed.{TakesSome, Gathers}
 
 -- ---- a stop writes the same records, whatever the trace had taken before
 

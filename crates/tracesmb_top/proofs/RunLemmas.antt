@@ -13,7 +13,7 @@ use Rattle.run_model.specs.Runs.{FailsRun, Runs}
 use Rattle.thread_host.specs.Finishing.{EndsRun, HasRun}
 use Rattle.thread_host.specs.Jobs.{KeepsLoans}
 use Rattle.tracesmb_top.specs.Ran.{GathersRun, TakesSomeRun}
-use Rattle.tracesmb_top.specs.Replayed.{done_text}
+use Rattle.loss_report.specs.Raws.{done_text}
 use Rattle.tracesmb_top.proofs.GatherLemmas.{lent_all, none_part, up_to_all}
 
 -- where an adapter hands its bytes on as before, it stands on the same loan

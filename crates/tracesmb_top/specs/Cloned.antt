@@ -18,7 +18,7 @@ use Rattle.tracesmb_top.specs.declared.cloning.CloneCount.{CloneCount}
 use Rattle.tracesmb_top.specs.declared.report.Report.{Report}
 use Rattle.tracesmb_top.specs.declared.report.Report.TheVariants.{Played, Cloned}
 use Rattle.tracesmb_top.specs.Refusals.{IsFor}
-use Rattle.tracesmb_top.specs.Replayed.{done_text}
+use Rattle.loss_report.specs.Raws.{done_text}
 
 -- ---- the lines of clones
 
@@ -63,7 +63,7 @@ pub record MadeClones (scenario : Parts) (clones : List Buffer) (report : List �
 
 -- The text is a scenario, and was replayed to its end: the trace took the records of the clones, in the order of their lines, and nothing
 -- else, and these bytes are the report. What the clones are is in `ReplaysCloning`: each is its buffer as its line found it, on the way of the
--- replay without these lines, and what is read of it tells, sequence by sequence, of what had been emitted by then.
+-- replay without these lines, and what is read of it tells, sequence by sequence but those with lines `raw`, of what had been emitted by then.
 pub record IsCloned (text : List ℕ) (old new : Intake) (report : List ℕ) : Type 0 where
   pub parts : Parts
   pub for_clone : IsFor Clone text parts

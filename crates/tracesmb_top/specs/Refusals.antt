@@ -4,7 +4,7 @@ use Rattle.command_words.specs.declared.command.Command.{Command}
 use Rattle.command_words.specs.declared.command.Command.TheVariants.{Replay, Run, Check}
 use Rattle.scenario_text.specs.declared.reason.Reason.{Reason}
 use Rattle.scenario_text.specs.declared.scenario.LineKind.{LineKind}
-use Rattle.scenario_text.specs.declared.scenario.LineKind.TheVariants.{Close, CloneBuffer}
+use Rattle.scenario_text.specs.declared.scenario.LineKind.TheVariants.{Close, CloneBuffer, Raw}
 use Rattle.scenario_text.specs.declared.scenario.NumberedLine.{NumberedLine}
 use Rattle.scenario_text.specs.Scenario.{Parts, scenario_of}
 use Rattle.scenario_text.specs.Texts.{refusal_line}
@@ -14,12 +14,15 @@ use Rattle.trace_file.specs.declared.fault.TraceFault.TheVariants.{Group, BadRec
 
 -- ---- which scenarios aren't for a command
 
--- why a line isn't one for the command: on threads a close would come in no order with what is written, and a clone is made by `clone` alone
+-- why a line isn't one for the command: on threads a close or a chunk that is committed would come in no order with what is written, a clone
+-- is made by `clone` alone, and nobody knows what was written into a chunk that a line commits
 unfoldable pub unfit_words : Command → LineKind → Option (List ℕ)
 unfit_words Run (Close producer) = Some (codes "not under run")
 unfit_words Run (CloneBuffer buffer) = Some (codes "not under run")
 unfit_words Replay (CloneBuffer buffer) = Some (codes "not under replay")
 unfit_words Check (CloneBuffer buffer) = Some (codes "not under check")
+unfit_words Run (Raw writer chunk) = Some (codes "not under run")
+unfit_words Check (Raw writer chunk) = Some (codes "not under check")
 unfit_words command other = None
 
 -- `line L: REASON`, with its line feed

@@ -2,7 +2,6 @@
 use Rattle.std.specs.Prelude.{◌≡◌, ℕ, ◌⊎◌, List, Result, Ok, Err}
 use Rattle.byte_io.specs.Bytes.{Intake, after_told, IsGrown, TakesPart}
 use Rattle.loss_report.specs.declared.counts.Done.{Done}
-use Rattle.loss_report.specs.Report.{report_text}
 use Rattle.command_words.specs.declared.command.Command.TheVariants.{Replay}
 use Rattle.scenario_text.specs.Scenario.{Parts}
 use Rattle.replay_model.specs.Played.{Replays}
@@ -12,22 +11,23 @@ use Rattle.replay_host.specs.Replaying.{HasReplayed, HasStopped}
 use Rattle.tracesmb_top.specs.Refusals.{IsFor}
 
 -- The text is a scenario, and was replayed to its end: the trace took the records of its lines and nothing else, and these bytes are its
--- report. The delivery theorem is in `Replays`: the records are faithful to what the writers emitted, the report counts each packet once,
--- and where chunks and bytes are enough, none is missing.
+-- report. The delivery theorem is in `Replays`: the records are faithful to what the writers emitted in whose names no line commits a chunk,
+-- the report counts each packet of these once, and where chunks and bytes are enough, and no line commits any, none is missing.
 pub record IsReplayed (text : List ℕ) (old new : Intake) (report : List ℕ) : Type 0 where
   pub parts : Parts
   pub for_replay : IsFor Replay text parts
   pub replays : Replays parts old new report
 
 -- The text is a scenario, and its replay stopped where a writer stalled: the trace took the records of the reads before, and nothing else.
--- They are faithful to what the writers emit by all the lines (`HasStopped`).
+-- They are faithful to what the writers emit by all the lines, but to those in whose names lines commit chunks (`HasStopped`).
 pub record IsStalled (text : List ℕ) (writer : ℕ) (old new : Intake) : Type 0 where
   pub parts : Parts
   pub for_replay : IsFor Replay text parts
   pub stops : HasStopped parts (stops.Stalled writer) old new
 
 -- What the trace takes of a scenario's replay: all to its end, or all up to a stop. To its end and up to a stall these are records that are
--- faithful to what the writers emit by the lines, and up to a write that failed a front part of such records.
+-- faithful to what the writers emit by the lines, but to those in whose names lines commit chunks, and up to a write that failed a front
+-- part of such records.
 abbrev pub TakesReplay : Parts → (old new : Intake) → Type 0
 TakesReplay scenario old new =
     ((report : List ℕ) × Replays scenario old new report) ⊎ ((fault : HostFault) × HasStopped scenario fault old new)
@@ -43,10 +43,6 @@ pub record IsCutShort (text : List ℕ) (old new : Intake) : Type 0 where
   pub parts : Parts
   pub for_replay : IsFor Replay text parts
   pub takes : TakesSome parts old new
-
--- the report of what a replay left
-abbrev pub done_text : Done → List ℕ
-done_text done = report_text done.buffers.items done.sequences.items done.flushes.items
 
 -- ---- a trace that gathers short writes into long ones
 

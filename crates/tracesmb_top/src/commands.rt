@@ -71,7 +71,7 @@ pub fn replay<T: Sink>(
 }
 
 /// Runs a scenario on threads, and writes its trace; its report is left to be written.
-#[tactic(auto, unfolding(crate::specs::Refusals::refusal_of, crate::specs::Refusals::refusal_by), using(crate::proofs::UnfitLemmas::fit_closes_none))]
+#[tactic(auto, unfolding(crate::specs::Refusals::refusal_of, crate::specs::Refusals::refusal_by), using(crate::proofs::UnfitLemmas::fit_closes_none, crate::proofs::UnfitLemmas::fit_raws_none))]
 pub fn run<R: Threads + Wait + Sync, T: Sink + Send, G: Gate + Sync>(
     rt: &R,
     alloc: Global,

@@ -5,6 +5,7 @@ ghost use Rattle.byte_io.specs.Buffered.{pending_bytes};
 ghost use Rattle.scenario_text.specs.Clones.{ClonesNone};
 ghost use Rattle.scenario_text.specs.Scenario.{IsScenario, parts_of};
 ghost use Rattle.replay_host.specs.Replaying.{CountsOne, CountsStop, IsStall};
+ghost use Rattle.scenario_text.specs.Raws.{RawsNone};
 ghost use Rattle.thread_host.specs.Hosts.{ClosesNone};
 ghost use Rattle.tracesmb_top.specs.Ran.{GathersRun, HandsRun};
 ghost use Rattle.tracesmb_top.specs.Replayed.{Gathers, HasPlayed};
@@ -78,6 +79,7 @@ fn run_gathered<R: Threads + Wait + Sync, T: Sink + Send, G: Gate + Sync>(
 ) -> Result<Done, HostFault>
     requires scenario { IsScenario scenario.now }
     requires closes { ClosesNone scenario.now.lines }
+    requires raws { RawsNone scenario.now.lines }
     requires empty { pending_bytes pending.old ≡ [] }
     requires may { T.may_write trace.old }
     ensures gathers { GathersRun (parts_of scenario.now) result (T.taken trace.old) (T.taken trace.new) (pending_bytes pending.new) }
@@ -99,6 +101,7 @@ pub fn run<R: Threads + Wait + Sync, T: Sink + Send, G: Gate + Sync>(
 ) -> Result<Done, HostFault>
     requires scenario { IsScenario scenario.now }
     requires closes { ClosesNone scenario.now.lines }
+    requires raws { RawsNone scenario.now.lines }
     requires may { T.may_write trace.old }
     ensures ends { HandsRun (parts_of scenario.now) result (T.taken trace.old) (T.taken trace.new) }
     ensures count { CountsStop (T.faults trace.old) (T.faults trace.new) result }

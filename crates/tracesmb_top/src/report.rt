@@ -2,13 +2,14 @@
 ghost use Rattle.std.specs.Prelude.{◌≡◌, [], OnOk, OnErr};
 ghost use Rattle.byte_io.specs.Buffered.{pending_bytes};
 ghost use Rattle.byte_io.specs.Bytes.{after_told, CountsFaults, HandsOn, TakesPart};
+ghost use Rattle.loss_report.specs.Raws.{done_text};
 ghost use Rattle.tracesmb_top.specs.Cloned.{report_of};
 
 use crate::cloning::{CloneCount, put_clones};
 use byte_io::buffered::{BufferedSink, PendingBytes};
 use byte_io::put::WriteFault;
 use byte_io::traits::Sink;
-use loss_report::{Done, put_report};
+use loss_report::{Done, put_raw, put_report};
 use std::alloc::Global;
 
 /// What a command left to be reported.
@@ -18,6 +19,19 @@ pub enum Report {
     Played(Done),
     /// Of a replay with clones, of which each has its line.
     Cloned { done: Done, clones: Vec<CloneCount> },
+}
+
+/// Writes the report of what a replay or a run left.
+#[tactic(auto, using(byte_io::proofs::Told::part_first, byte_io::proofs::Told::part_second, byte_io::proofs::Told::after_told_again))]
+fn put_done<O: Sink>(out: &mut O, done: &Done) -> Result<(), WriteFault>
+    requires { O.may_write out.old }
+    ensures all { OnOk result (O.taken out.new ≡ after_told (O.taken out.old) (done_text done.now)) }
+    ensures part { OnErr result (TakesPart (O.taken out.old) (O.taken out.new) (done_text done.now)) }
+    ensures count { CountsFaults (O.faults out.old) (O.faults out.new) result }
+    ensures goes_on { OnOk result (O.may_write out.new) }
+{
+    put_report(out, &done.buffers, &done.sequences, &done.flushes)?;
+    put_raw(out, &done.raws)
 }
 
 /// Writes the lines of a report.
@@ -30,9 +44,9 @@ fn put_lines<O: Sink>(out: &mut O, report: &Report) -> Result<(), WriteFault>
     ensures goes_on { OnOk result (O.may_write out.new) }
 {
     match report {
-        Report::Played(done) => put_report(out, &done.buffers, &done.sequences, &done.flushes),
+        Report::Played(done) => put_done(out, done),
         Report::Cloned { done, clones } => {
-            put_report(out, &done.buffers, &done.sequences, &done.flushes)?;
+            put_done(out, done)?;
             put_clones(out, clones)
         }
     }

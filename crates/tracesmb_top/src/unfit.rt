@@ -40,6 +40,11 @@ fn line_unfit(command: Command, line: u32, what: &LineKind<'_>) -> Option<ArrayV
             Command::Check => Some(unfit_line(line, b"not under check")),
             _ => None,
         },
+        LineKind::Raw { .. } => match command {
+            Command::Run => Some(unfit_line(line, b"not under run")),
+            Command::Check => Some(unfit_line(line, b"not under check")),
+            _ => None,
+        },
         _ => None,
     }
 }

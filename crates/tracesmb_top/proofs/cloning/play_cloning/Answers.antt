@@ -8,7 +8,7 @@ use Rattle.scenario_text.specs.Scenario.{parts_of}
 use Rattle.chunk_plain.specs.Plain.{first_world}
 use Rattle.tracesmb_top.specs.declared.cloning.CloneCount.{CloneCount}
 use Rattle.tracesmb_top.specs.Cloned.{clone_counts, clones_text, clones_trace}
-use Rattle.tracesmb_top.specs.Replayed.{done_text}
+use Rattle.loss_report.specs.Raws.{done_text}
 use Rattle.tracesmb_top.proofs.CloneLemmas.{made_many}
 use Rattle.tracesmb_top.proofs.cloning.play_cloning.Goals as goal
 

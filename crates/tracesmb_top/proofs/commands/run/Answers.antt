@@ -1,10 +1,13 @@
 use Rattle.scenario_text.specs.Scenario.{parts_of}
-use Rattle.tracesmb_top.proofs.UnfitLemmas.{fit_closes_none}
+use Rattle.tracesmb_top.proofs.UnfitLemmas.{fit_closes_none, fit_raws_none}
 use Rattle.tracesmb_top.proofs.commands.run.Goals as goal
 
 -- lines that are for threads close no producer
 pub run-requires-clause-closes : goal.run-requires-clause-closes
 run-requires-clause-closes g c κs within = fit_closes_none c.in-Ok.scenario.lines (rw c.in_default.is at c.find_unfit.ensures.none)
+
+pub run-requires-clause-raws : goal.run-requires-clause-raws
+run-requires-clause-raws g c κs within = fit_raws_none c.in-Ok.scenario.lines (rw c.in_default.is at c.find_unfit.ensures.none)
 
 pub returns-in-Err-WriteFault-clause-ends : goal.returns-in-Err-WriteFault-clause-ends
 returns-in-Err-WriteFault-clause-ends g c = λ text said. record {

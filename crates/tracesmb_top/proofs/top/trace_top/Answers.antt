@@ -1,7 +1,7 @@
-use Rattle.std.proofs.Common.{[], map}
+use Rattle.std.proofs.Common.{[], map, inl}
 use Rattle.std.specs.String.{string_bytes}
 use Rattle.tracesmb_top.specs.Cloned.{report_of}
-use Rattle.tracesmb_top.proofs.CommandLemmas.{never_long, never_refused, wrote, wrote_part, has_stalled}
+use Rattle.tracesmb_top.proofs.CommandLemmas.{never_long, never_refused, whole_reported, wrote, wrote_part, has_stalled}
 use Rattle.tracesmb_top.proofs.top.trace_top.Goals as goal
 
 pub returns-in-Ok-None-clause-refuses : goal.returns-in-Ok-None-clause-refuses
@@ -57,3 +57,10 @@ pub say_report-requires : goal.say_report-requires
 say_report-requires g c =
     let done = rw c.in-Ok-Some.field-0-is at c.in-Ok-Some.ensures in
     c.requires.report c.in-Ok.command c.in-Ok.ensures.asked (done.ends c.in-Ok-take_input.ensures.given.text c.in-Ok-take_input.ensures.given.tells).0
+
+pub returns-in-Ok-Some-clause-complete : goal.returns-in-Ok-Some-clause-complete
+returns-in-Ok-Some-clause-complete g c = λ command ask read written quiet accepts.
+    let done = rw c.in-Ok-Some.field-0-is at c.in-Ok-Some.ensures in
+    let taken = c.in-Ok-take_input.ensures.given in
+    inl (whole_reported (map string_bytes c.args.words.now) c.in-Ok.command command c.say_report.result _ _ _ _ _ _ c.in-Ok.ensures.asked ask
+    (done.ends taken.text taken.tells).0 c.say_report.ensures.status c.say_report.ensures.part quiet)
