@@ -35,8 +35,8 @@ def buffer_steps(events, writer):
             yield 'refl'
 
 
-def noted_steps(events, writer):
-    """The same of the notes of the service."""
+def noted_steps(events, writer, elsewhere=''):
+    """The same of the notes of the service. What comes by a commit is of another sequence, which this term shows of each place."""
     front = record(continues='refl', rest='_', begins='refl', some='omega arith', more='omega arith')
     scraped = record(found='_', looked='refl', image='_', there='refl', front=front)
     for event in events:
@@ -47,6 +47,8 @@ def noted_steps(events, writer):
             yield f'refl, (refl, refl, {scraped}' if own else 'refl'
         elif kind == 'patched':
             yield '_, refl, refl' if own else 'refl'
+        elif kind == 'commit':
+            yield f'refl, {elsewhere} {event[2]}'
         elif kind == 'close':
             yield 'refl, (refl' if own else 'refl'
         else:

@@ -20,6 +20,7 @@ use Rattle.std.proofs.lemmas.List.Elements.{All-from_recursion}
 use Rattle.wire_varint.specs.Varint.{varint, groups, tag, redundant}
 use Rattle.trace_model.specs.Encoding.{number_field, bytes_head, bytes_field}
 use Rattle.trace_model.specs.Record.{content_of, record_of}
+use Rattle.trace_model.specs.Walks.{is_accepted, is_number, is_refused}
 use Rattle.std.specs.Prelude.{slice_index_or}
 use Rattle.trace_model.specs.Packets.{packets_of}
 use Rattle.trace_model.specs.Cut.{IsWellFormedPage, CutsInto}
@@ -31,7 +32,7 @@ use Rattle.computed.specs.Words.{Told, emitted_in, spliced}
 use Rattle.computed.proofs.Everywhere.{at_each, told_at}
 '''
 
-UNFOLDING = 'unfolding groups varint tag redundant number_field bytes_head bytes_field content_of record_of\n'
+UNFOLDING = 'unfolding groups varint tag redundant number_field bytes_head bytes_field content_of record_of is_accepted is_number is_refused\n'
 
 MOST_EVENTS = 120       # of a scenario
 MOST_CHARACTERS = 50000
@@ -142,6 +143,8 @@ def noted_term(event):
         return f'views.Patched {number} {rest[0]}'
     if kind == 'close':
         return f'views.Closed {number}'
+    if kind == 'commit':
+        return f'views.Commit {rest[0]}'
     return f'views.Read {number} {histories.limit_term(rest[0])}'
 
 
@@ -149,7 +152,7 @@ def look_term(event):
     """What the service found of a chunk that was being written."""
     _, number, position, (count, flags, payload), _ = event
     ends = sealed_ends(count, payload)
-    found = record(place=number - 2, id=position, head=f'record {{ count = {count + 1}; flags = {flags} }}',
+    found = record(place=number - 2, position=position, head=f'record {{ count = {count + 1}; flags = {flags} }}',
                    ends=listed(map(str, ends)), sealed=octets(payload[:ends[-1]]))
     return record(chunk=0, word=0, header=0, found=f'Some ({found})', taken='[]')
 

@@ -12,6 +12,7 @@ standard output and standard error, byte for byte.
     gen       small workloads                       words           words of every command, and others
     tune      turns of users, by the sums that any order has to keep
     clone     scenarios whose lines make clones of buffers
+    raw       scenarios whose lines commit chunks that no writer made
     stream    configuration texts and frames, some of them broken: only where it is named, since the program has no such command yet
     settled   `run` of scenarios whose outcome no thread decides
     run       `run` of any: that the trace tells of the scenario, by the second reading's `check`, that each line of the report adds up,
@@ -33,6 +34,7 @@ HERE = os.path.dirname(os.path.abspath(__file__))
 sys.path.insert(0, HERE)
 
 import random_inputs as inputs      # noqa: E402
+import random_streams               # noqa: E402
 from model.answers import Answer    # noqa: E402
 from model.check import check       # noqa: E402
 from model.commands import TO_COME, answer_to   # noqa: E402
@@ -90,8 +92,12 @@ def made_clone(seed, tries):
     return [random.Random(seed).choice(['clone'] * 20 + ['replay', 'run', 'check'])], inputs.with_clones(seed, tries)
 
 
+def made_raw(seed, tries):
+    return [random.Random(seed).choice(['clone'] if seed % 5 == 4 else ['replay'] * 12 + ['clone', 'run', 'check'])], inputs.with_raws(seed, tries)
+
+
 def made_stream(seed, _):
-    return ['stream'], inputs.stream(seed)
+    return ['stream'], random_streams.stream(seed)
 
 
 def made_settled(seed, tries):
@@ -108,7 +114,7 @@ def made_tune(seed, _):
 
 
 KINDS = {'replay': made_replay, 'broken': made_broken, 'read': made_read, 'damaged': made_damaged, 'check': made_check, 'gen': made_gen,
-         'words': made_words, 'clone': made_clone, 'stream': made_stream, 'settled': made_settled, 'run': made_run, 'tune': made_tune}
+         'words': made_words, 'clone': made_clone, 'raw': made_raw, 'stream': made_stream, 'settled': made_settled, 'run': made_run, 'tune': made_tune}
 
 
 def answer_of(program: list[str], words: list[str], data: bytes) -> Answer:

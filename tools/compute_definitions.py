@@ -67,7 +67,7 @@ def kinds_of(options, scratch):
     import writer_scripts
     kinds = {'histories': ('Histories', histories, options.histories), 'scripts': ('Scripts', writer_scripts, options.scripts),
              'worlds': ('Worlds', worlds, options.writers), 'accounts': ('Scenarios', accounts, options.scenarios)}
-    crate = make_scratch(scratch, laws=options.mutate is None) if any(wanted for *_, wanted in kinds.values()) else None
+    crate = make_scratch(scratch) if any(wanted for *_, wanted in kinds.values()) else None
     found = {name: Kind(*kind, crate) for name, kind in kinds.items()}
     for name, makers, wanted in (('replays', replays, options.replays), ('runs', runs, options.runs)):
         folder, sliced = make_slices(os.path.join(scratch, name), makers) if wanted else (None, makers)

@@ -118,9 +118,10 @@ no_limit = 2 ^ 64 - 1
 PROOF_HEAD = '''use Rattle.std.proofs.Common.{refl}
 use Rattle.wire_varint.specs.Varint.{varint, groups}
 use Rattle.trace_model.specs.Record.{content_of, record_of}
+use Rattle.trace_model.specs.Walks.{is_accepted, is_number, is_refused}
 '''
 
-UNFOLDING = 'unfolding groups varint content_of record_of\n'
+UNFOLDING = 'unfolding groups varint content_of record_of is_accepted is_number is_refused\n'
 
 LEAST = 2               # histories that take a branch
 MOST_SEEDS = 20000      # seeds that are looked at for a branch
@@ -280,12 +281,16 @@ class HistoryMaker:
         near = sequence.least_missing
         return max(0, self.pick(near, near, near, near, near, near + 1, near + 2, near - 1, sequence.cursor[0], near + 1_023, near + 1_024))
 
+    def body(self):
+        """The bytes of a fragment: fields mostly, which may be cut short, or the service's own."""
+        return self.random.choice(random_inputs.CONTENTS) if self.chance(.8) else self.random.randbytes(self.pick(0, 1, 2, 4, 5))
+
     def chunk(self, number):
         """An image of some fragments, which may be wrong."""
         size, payload = self.payloads[number], b''
         count = self.pick(0, 1, 1, 1, 2, 2, 3) if self.chance(.1) else self.pick(1, 1, 2, 2, 3)
         for at in range(count):
-            body = self.random.randbytes(self.pick(0, 1, 2, 4, 5))
+            body = self.body()
             if at == count - 1 and self.chance(.15):
                 payload += DROP_MARK
                 break

@@ -40,8 +40,8 @@ LITTLE_MEMORY = 60_000_000      # bytes, of which the program's own are a few
 WORDS = ([], ['gen', '0', '1', '1'], ['gen', '0', '1'], ['tune', '1', '2'], ['tune', '8', '100'], ['tune', '9', '1'])   # that read no input
 
 # Branches that no input takes: a part has fewer fragments than its chunk has in the end, and no chunk that a writer holds is too far ahead.
-OUT_OF_REACH = {('buffers.py', 'note_arrival', 'if self.cursor[0] == chunk_id and self.cursor[1] >= count:', 'holds'),
-                ('buffers.py', 'arrive_partial', 'if chunk.chunk_id >= sequence.least_missing + IDS_AHEAD:', 'holds')}
+OUT_OF_REACH = {('buffers.py', 'note_arrival', 'if self.cursor[0] == position and self.cursor[1] >= count:', 'holds'),
+                ('buffers.py', 'arrive_partial_placed', 'if chunk.chunk_id >= sequence.least_missing + IDS_AHEAD:', 'holds')}
 SMALL = b'buffer 4 ring\nproducer 1 4096 14\nwriter 1 1 drop\np 1\n'
 SMALL_TRACE = bytes.fromhex('0a055002d00201')
 

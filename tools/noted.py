@@ -8,12 +8,15 @@ from dataclasses import dataclass, field
 import recorder
 import writer_scripts
 from model import replay, run, service
+from model.chunks import SIZE, Chunk, Patch, id_of
 from model.clones import clone_of
+from model.geometry import AWAITS
 from model.limits import MOST_NUMBER
 from model.reading import read_buffer
 from model.scenario import Refused, read_scenario
+from model.wire import CONTENT, HOLE, four_bytes, tag
 from model.writers import OutOfChunks, Stalled
-from random_inputs import ScenarioMaker
+from random_inputs import RawMaker, ScenarioMaker, raw_line
 
 PAGES = [(1, 4096, 1), (2, 4096, 1), (1, 4096, 2), (1, 4096, 14), (1, 4096, 7), (1, 4096, 4)]
 MOST_LINES = 28
@@ -46,7 +49,9 @@ class SmallMaker(ScenarioMaker):
 
     def line_of_service(self):
         if 'k' in self.kinds and self.chance(.15):
-            self.lines.append(f'k {self.random.randrange(len(self.buffers)) + 1}')
+            number = self.random.randrange(len(self.buffers)) + 1
+            self.lines += [f'r {number} 1'] if self.chance(.4) else []
+            self.lines.append(f'k {number}')
             return
         # (closes and requests are rarer elsewhere)
         if 'q' in self.kinds and self.chance(.25):
@@ -58,6 +63,35 @@ class SmallMaker(ScenarioMaker):
                 self.lines.append(f'x {number}')
         else:
             super().line_of_service()
+
+
+class SmallRawMaker(RawMaker, SmallMaker):
+    """One in which chunks are committed in the names of some of its writers, also such as they hold."""
+
+    def __init__(self, seed, kinds):
+        SmallMaker.__init__(self, f'raws {seed}', kinds)
+        self.first_ids, self.targets = [], []
+
+    def line_of_service(self):
+        if self.chance(.2):
+            producer = self.random.randrange(len(self.producers)) + 1
+            self.lines += [f's {producer}'] if producer not in self.closed else []
+        else:
+            super().line_of_service()
+
+    def commit(self, place):
+        if self.writers[place][0] in self.closed or self.chance(.7):
+            super().commit(place)
+        else:
+            self.lines.append(raw_line(place + 1, self.targets[place], awaiting(self.random, self.first_ids[place])))
+
+
+def awaiting(chooser, first_id):
+    """A chunk that awaits the patch which it brings: the length of a nested message, of which nothing follows."""
+    head = tag(900, CONTENT)
+    chunk_id = id_of(first_id, chooser.randrange(3))
+    patch = Patch(chunk_id, SIZE + len(head), four_bytes(0), chooser.random() < .7)
+    return Chunk(chunk_id, 1, AWAITS, bytearray(four_bytes(len(head + HOLE)) + head + HOLE), [patch])
 
 
 @dataclass(frozen=True)
@@ -162,6 +196,7 @@ class Service(service.Service):
 
     def __init__(self, scenario):
         self.acts, self.moments, self.depth, self.letters = [], [], 0, []
+        self.commits = self.applied = 0         # so far, and how many of their patches were put in
         super().__init__(scenario)
         first = 0
         for number, (producer, claims) in enumerate(zip(scenario.producers, self.claims), 1):
@@ -204,6 +239,22 @@ class Service(service.Service):
         self.act(('ReadAll', buffer, limit))
         return self.within(super().read, buffer, limit)
 
+    def commit(self, number, of, target, asked):
+        self.act(('CommitRaw', of - 1, target, asked))
+        self.within(super().commit, number, of, target, asked)
+
+    def answer_to(self, writer, target, asked):
+        """What comes by a commit is one event, which has its place among all that came so."""
+        at = len(recorder.WHOLE.events)
+        answer = super().answer_to(writer, target, asked)
+        if target == writer.spec.buffer:
+            (_, sequence, position, image, _), *patches = recorder.WHOLE.events[at:]
+            recorder.WHOLE.events[at:] = [('commit', sequence, self.commits, position, image, [patch[3] for patch in patches], answer)]
+            del recorder.WHOLE.cursors[at + 1:]
+            self.commits += 1
+            self.applied += sum(patch[4] == 'Applied' for patch in patches)
+        return answer
+
     def request_flush(self):
         self.act(('Request',))
         super().request_flush()
@@ -233,6 +284,15 @@ class Service(service.Service):
         super().read_answers()
 
 
+@dataclass(frozen=True)
+class Clone:
+    """A clone: behind how many acts it is made, of which buffer, what is read of it, and whether the buffer's own reader had other marks."""
+    at: int
+    of: int
+    trace: bytes
+    marks_anew: bool
+
+
 @dataclass
 class Played:
     """A scenario that was played, in the form that whole scenarios have (accounts.py)."""
@@ -240,7 +300,7 @@ class Played:
     service: Service
     out: list = field(default_factory=list)
     is_whole: bool = True
-    clones: list = field(default_factory=list)      # behind how many acts, of which buffer, and what is read of each
+    clones: list = field(default_factory=list)
 
 
 LEAST = 2               # of each thing that all together are to have
@@ -268,33 +328,36 @@ def noting():
     service.Writer = Writer
 
 
-def scenario_of(seed, kinds):
+def scenario_of(maker):
     """A small scenario, or none where it is refused."""
     try:
-        return read_scenario(SmallMaker(seed, kinds).make(MOST_LINES))
+        return read_scenario(maker.make(MOST_LINES))
     except Refused:
         return None
 
 
-def read_clone(buffer):
-    """What is read of a clone of a buffer. Nothing of it is noted."""
-    count = len(recorder.WHOLE.events)
-    records = read_buffer(clone_of(buffer), MOST_NUMBER)
+def read_clone(service, number):
+    """A clone of the buffer with this number. Nothing of what is read is noted."""
+    buffer, count = service.buffers[number - 1], len(recorder.WHOLE.events)
+    records, same = read_buffer(clone_of(buffer), MOST_NUMBER), clone_of(buffer)
+    for one, sequence in buffer.sequences.items():
+        same.sequences[one].delivered = sequence.delivered
+    marks_anew = records != read_buffer(same, MOST_NUMBER)
     del recorder.WHOLE.events[count:], recorder.WHOLE.cursors[count:]
-    return b''.join(records)
+    return Clone(len(service.acts), number, b''.join(records), marks_anew)
 
 
-def replayed(seed):
+def replayed(maker):
     """A replay of a small scenario, and its clones; none where it is refused or a writer stalls."""
     recorder.forget()
-    scenario = scenario_of(seed, 'csrxqk')
+    scenario = scenario_of(maker)
     if scenario is None:
         return None
     played = Played(scenario, Service(scenario))
     try:
         for line in scenario.lines:
             if line.kind == 'k':
-                played.clones.append((len(played.service.acts), line.of, read_clone(played.service.buffers[line.of - 1])))
+                played.clones.append(read_clone(played.service, line.of))
             else:
                 replay.play_lines(played.service, [line], played.out)
         played.out += played.service.finish()
@@ -318,7 +381,7 @@ class Jobs(run.Jobs):
 def ran(seed):
     """A run of a small scenario in some order, up to its end; none where it is refused."""
     recorder.forget()
-    scenario = scenario_of(seed, 'csrq')
+    scenario = scenario_of(SmallMaker(seed, 'csrq'))
     if scenario is None:
         return None
     jobs = Jobs(scenario, random.Random(f'order {seed}').randrange(2 ** 32))

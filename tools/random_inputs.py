@@ -1,15 +1,11 @@
-"""Random inputs: scenarios, broken ones, traces of any fields, damaged ones, checks of both, and streams. Each follows from a seed."""
+"""Random inputs: scenarios, broken ones, traces of any fields, damaged ones, checks of both, and chunks that no writer made. Each follows from a seed."""
 
 import random
 
-from model.chunks import Chunk, Claims, Patch
-from model.config import CHUNKS_OF_PAGE
-from model.fields import read_fields
+from model.chunks import Chunk, Patch, id_of
 from model.geometry import payload_size, record_size
 from model.limits import MOST_NUMBER
-from model.scenario import Writer as Spec
 from model.wire import DROP_MARK, MARK, four_bytes, number_field, record, tag, varint
-from model.writers import Writer
 
 PAGES = [(1, 4096, 1), (1, 4096, 1), (2, 4096, 1), (3, 4096, 1), (1, 4096, 2), (2, 4096, 2), (1, 4096, 4), (1, 4096, 7), (1, 4096, 14),
          (1, 4096, 14), (2, 4096, 14), (1, 8192, 14), (1, 8192, 7), (1, 12288, 4), (1, 65536, 14), (2, 65536, 1), (64, 4096, 14)]
@@ -31,7 +27,12 @@ ODD_LINES = [
     b"p 1 1:x''", b'p 1 1{', b'p 1 1{}', b'p 1 1{ }', b'p 1 1{1:1 }', b'p 1 1{}}', b'p 1 1{}{}', b'p 1 ' + b'1{' * 16 + b'}' * 16,
     b'p 1 ' + b'1{' * 17 + b'}' * 17, b'p 1 ' + b'1{' * 40, b'a 1 ' + b'1{' * 9 + b'}' * 9, b'p 1 1:"x"*1048572', b'p 1 1:"x"*1048573',
     b'p 1 1:""*1048576', b'p 1 8:1\r', b'\xef\xbb\xbfp 1', b'p\t1', b'P 1', b'==', b'k 1', b'k 1', b'k 2', b'k 0', b'k 9',
-    b'k 18446744073709551616', b'k 1 1', b'k', b'raw 1 1', b'p -1', b'p +1', b'p 1 8:-1',
+    b'k 18446744073709551616', b'k 1 1', b'k', b'raw 1 1', b"raw 1 0 1 0 1 x''", b"raw 1 0 1 0 1 x'024005'", b"raw 1 0 1 0 1 x'0'",
+    b"raw 1 0 1 0 1 x'02400A'", b"raw 1 0 1 0 1 x'024005", b"raw 1 0 1 0 1 '024005'", b"raw  1 0 1 0 1 x'00'", b"raw 1 0 1 0 1 x'00' ", b"raw 1 0 1 0 1 x'00' 0 0 x'00000000' more",
+    b"raw 1 0 1 0 1 x'00' 0 0 x'00000000' last", b"raw 1 0 1 0 1 x'00' 0 0 x'000000' last", b"raw 1 0 1 0 1 x'00' 0 0 x'0000000000' last", b"raw 1 0 1 0 1 x'00' 0 0 x'00000000'",
+    b"raw 1 0 1 0 1 x'00' 0 0 x'00000000' Last", b"raw 1 0 1 0 1 x'00' 4294967296 0 x'00000000' last", b"raw 1 4294967296 1 0 1 x'00'", b"raw 1 4294967295 1 0 1 x'00'", b"raw 1 0 1024 0 1 x'00'",
+    b"raw 1 0 1023 63 1 x'00'", b"raw 1 0 1 64 1 x'00'", b"raw 0 0 1 0 1 x'00'", b"raw 65 0 1 0 9 x'00'", b"raw 1 0 1 0 9 x'00'", b"raw 1 0 1 0 300 x'00'", b"raw 1 00 1 0 1 x'00'",
+    b"raw 1 0 1 0 18446744073709551616 x'00'", b"raw 1 0 1 0 1 x'" + b'00' * 5000 + b"'", b'raw', b'p -1', b'p +1', b'p 1 8:-1',
 ]
 ODD_BYTES = b'\x00\n\r\t "#\'*+-0159:=ABZ\\abcnpqrswx{}\x7f\x80\xff'
 
@@ -237,6 +238,72 @@ def settled(seed: object, tries: bool = True) -> bytes:
     return SettledMaker(seed, tries).make()
 
 
+CONTENTS = [b'', b'\x40\x05', b'\x08\x80\x01', b'\x50\x05', b'\x0b', b'\x40', MARK, MARK + b'\x40\x07', b'\x0a\x03abc', b'\x0a\x09abc', b'\x92\x03\x00']
+
+
+def odd_chunk(chooser: random.Random, size: int, first_id: int = 0) -> Chunk:
+    """A chunk for payloads of this size that no writer made so."""
+    chunk_id = chooser.choice([0, 0, 1, 1, 2, 3, 4, chooser.randrange(12), 1023, 1024, 2 ** 32 - 1])
+    contents = chooser.choices(CONTENTS, k=chooser.choice([1, 1, 1, 2, 3]))
+    payload = b''.join(chooser.choice((four_bytes, varint))(len(content)) + content for content in contents)
+    count = len(contents)
+    if chooser.random() < .15:
+        payload, count = payload + DROP_MARK, count + 1
+    count += chooser.choice([0, 0, 0, 0, 1, -1, 1023 - count])
+    patches = [Patch(id_of(first_id, chooser.choice([chunk_id, 0, 1, 2])), chooser.choice([0, 1, 4, 5, chooser.randrange(40), size - 4, 2 ** 32 - 1]),
+                     chooser.randbytes(4), chooser.random() < .6) for _ in range(chooser.choice([0, 0, 0, 1, 2, 16]))]
+    flags = chooser.choice([0, 0, 0, 1, 2, 2, 3, 4, 6, 7, 63])
+    return Chunk(id_of(first_id, chunk_id), count, flags, bytearray(payload[:size]), patches)
+
+
+def raw_line(writer: int, target: int, chunk: Chunk) -> str:
+    """The line `raw` of a chunk, with the first of its patches."""
+    line = f"raw {writer} {chunk.chunk_id} {chunk.count} {chunk.flags} {target} x'{bytes(chunk.payload).hex()}'"
+    for patch in chunk.patches[:1]:
+        line += f" {patch.chunk_id} {patch.offset} x'{patch.bytes.hex()}' {'last' if patch.last else 'more'}"
+    return line
+
+
+class RawMaker(ScenarioMaker):
+    """A scenario in which chunks are committed in the names of some of its writers."""
+
+    def __init__(self, seed: object, tries: bool = True):
+        super().__init__(f'raws {seed}', tries, 'csrxqk' if self.is_cloned(seed) else 'csrxq')
+        self.first_ids: list[int] = []
+        self.targets: list[int] = []
+
+    @staticmethod
+    def is_cloned(seed: object) -> bool:
+        return isinstance(seed, int) and seed % 5 == 4
+
+    def add_writer(self, producer: int, buffer: int, policy: str) -> bool:
+        added = super().add_writer(producer, buffer, policy)
+        if added:
+            words = self.lines[-1].split()
+            self.first_ids.append(int(words[-1]) if 'from' in words else 0)
+            self.targets.append(buffer + 1)
+        return added
+
+    def line_of_service(self) -> None:
+        if 'k' in self.kinds and self.chance(.05) and sum(line.startswith('k ') for line in self.lines) < 4:
+            self.lines.append(f'k {self.random.randrange(len(self.buffers)) + 1}')
+        elif self.writers and self.chance(.6):
+            self.commit(min(self.random.randrange(len(self.writers)), self.random.randrange(len(self.writers))))
+        else:
+            super().line_of_service()
+
+    def commit(self, place: int) -> None:
+        producer, payload = self.writers[place]
+        if producer in self.closed:
+            return
+        target = self.targets[place] if self.chance(.95) else self.random.randrange(len(self.buffers)) + 1
+        self.lines.append(raw_line(place + 1, target, odd_chunk(self.random, payload, self.first_ids[place])))
+
+
+def with_raws(seed: object, tries: bool = True) -> bytes:
+    return RawMaker(seed, tries).make()
+
+
 def edited(data: bytes, chooser: random.Random, odd: bytes) -> bytes:
     """A byte more, less or other."""
     at, byte = chooser.randrange(len(data) + 1), bytes([chooser.choice(odd)])
@@ -332,165 +399,3 @@ def remarked(piece: bytes, told, front: bool) -> bytes:
 
 
 # Streams
-
-GAPS = [' ', ' ', ' ', ' ', '\n', '\t', '\r\n', '  ', ' # a note\n', '\n# of "quotes" { and } braces\n']
-PROGRAMS = ['a', 'b', 'traced_probes', 'linux.ftrace', 'x y z', '']
-OTHER_FIELDS = ['duration_ms: 10000', 'write_into_file: true;', 'ftrace_config { ftrace_events: "sched_switch" }', 'period_ms: -5,', 'a{b{c:1}d:{}}',
-                'statsd_metadata: { triggering_alert_id: +1.5e3 ; }', 'buffer { size_kb: 0 }', 'name: "data_sources { }"']
-TEXT_ODDS = [('size_kb: 4', 'size_kb: 3'), ('size_kb: 4', 'size_kb: 04'), ('size_kb: 4', 'size_kb: 65537'), ('size_kb: 4', 'size_kb: "4"'),
-             ('size_kb: 4', 'size_kb {}'), ('size_kb: 4', 'size_kb: 99999999999999999999999'), ('size_kb', 'size_mb'), ('RING_BUFFER', 'RING'),
-             ('DISCARD', '"DISCARD"'), ('target_buffer: 0', 'target_buffer: 9'), ('page_size_kb: 4', 'page_size_kb: 6'), ('"a"', 'a'),
-             ('page_size_kb: 4', 'page_size_kb: 64'), ('config {', 'config: 1 {'), ('config {', 'config: "x" buffers {'), (' {', ': {'), ('{', ''),
-             ('}', '}}'), (':', ''), (';', ';;'), ('"', "'"), ('buffers', 'producers'), ('producers', 'data_sources'), ('\n', '\n#\x7f\n'), (' ', ' \x80 ')]
-TEXT_ENDS = ['buffers { size_kb: 4 } ' * 8, 'producers { } ' * 17, 'data_sources { config { } } ' * 65, 'producers: 1', '# no line feed', '{', 'x', 'x:', '"']
-CONTENTS = [b'', b'\x40\x05', b'\x08\x80\x01', b'\x50\x05', b'\x0b', b'\x40', MARK, MARK + b'\x40\x07', b'\x0a\x03abc', b'\x0a\x09abc', b'\x92\x03\x00']
-
-
-class StreamMaker:
-    """A random configuration text, and frames with chunks of writers of its sources, in some order, and others."""
-
-    def __init__(self, seed: object):
-        self.random = random.Random(f'stream {seed}')
-        self.buffers = [self.pick(4, 4, 4, 5, 8, 64) for _ in range(self.pick(0, 1, 1, 1, 2, 3))]
-        self.producers = [self.pick(4, 4, 4, 8, 16, 64) for _ in range(self.pick(0, 0, 1, 2, 3))]
-        self.names = self.random.sample(PROGRAMS, len(self.producers))
-        self.sources = [self.source() for _ in range(self.pick(0, 1, 1, 2, 3, 5) if self.buffers else 0)]
-
-    def pick(self, *choices):
-        return self.random.choice(choices)
-
-    def chance(self, of: float) -> bool:
-        return self.random.random() < of
-
-    def source(self) -> tuple[int, int, list[str]]:
-        """The place of its buffer, the size of its producer's pages, and its filter."""
-        names = [self.random.choice(PROGRAMS) for _ in range(self.pick(0, 0, 1, 2))]
-        own = [size for name, size in zip(self.names, self.producers) if name and name in names]
-        return self.random.randrange(len(self.buffers)), (own or self.producers or [4])[0], names
-
-    def payload_of(self, source: int) -> int:
-        return payload_size(self.sources[source][1] * 1024, CHUNKS_OF_PAGE)
-
-    # The text
-
-    def gap(self) -> str:
-        return ''.join(self.random.choices(GAPS, k=self.pick(1, 1, 1, 2)))
-
-    def field(self, name: str, value: object) -> str:
-        return f'{name}{self.pick("", "", " ")}:{self.pick("", " ", " ", self.gap())}{value}{self.pick("", "", ";", " ,")}'
-
-    def block(self, name: str, fields: list[str]) -> str:
-        fields = fields + ([self.random.choice(OTHER_FIELDS)] if self.chance(.3) else [])
-        self.random.shuffle(fields)
-        inside = ''.join(self.gap() + one for one in fields)
-        return f'{name}{self.pick(" ", "", ": ", self.gap())}{{{inside}{self.pick(" ", "", self.gap())}}}{self.pick("", "", "", ";", ",")}'
-
-    def text(self) -> str:
-        blocks = []
-        for kb in self.buffers:
-            policy = [self.field('fill_policy', self.pick('RING_BUFFER', 'DISCARD'))] if self.chance(.5) else []
-            blocks.append(self.block('buffers', [self.field('size_kb', kb), *policy]))
-        for name, page in zip(self.names, self.producers):
-            sizes = [self.field('page_size_kb', page), self.field('shm_size_kb', page * self.pick(1, 2, 64))]
-            if page == 4 and self.chance(.5):
-                sizes = []
-            blocks.append(self.block('producers', sizes + ([self.field('producer_name', f'"{name}"')] if name else [])))
-        for target, _, names in self.sources:
-            fields = [self.field('producer_name_filter', f'"{name}"') for name in names]
-            own = [self.field('target_buffer', target)] if target or self.chance(.5) else []
-            own += [self.field('name', f'"{self.random.choice(PROGRAMS)}"')] if self.chance(.7) else []
-            fields.append(self.block('config', own)) if own or self.chance(.5) else None
-            blocks.append(self.block('data_sources', fields))
-        blocks += [self.random.choice(OTHER_FIELDS)] if self.chance(.3) else []
-        if self.chance(.3) and len(self.buffers) < 2 and len(self.producers) < 2:
-            self.random.shuffle(blocks)
-        return self.pick('', self.gap()) + self.gap().join(blocks) + '\n'
-
-    def odd_text(self) -> bytes:
-        """The text with something wrong, mostly."""
-        text = self.text()
-        for _ in range(self.pick(1, 1, 2)):
-            old, new = self.random.choice([pair for pair in TEXT_ODDS if pair[0] in text] or TEXT_ODDS)
-            text = text.replace(old, new, 1)
-        text += self.random.choice(TEXT_ENDS) if self.chance(.25) else ''
-        data = text.encode('latin-1')
-        return data[:self.random.randrange(len(data) + 1)] if self.chance(.1) else data
-
-    # The frames
-
-    def written(self, source: int) -> list[Chunk]:
-        """What a writer of this source completes."""
-        size = self.payload_of(source)
-        words = ScenarioMaker(f'of a stream {self.random.random()}')
-        words.depth = min(words.depth, 4)
-        writer = Writer(source + 1, Spec(1, 1, 'drop', None), size, Claims(self.pick(2, 5, 40)), lambda: False)
-        for _ in range(self.random.randrange(12)):
-            writer.begin()
-            for part in read_fields(words.fields(size, 0).encode()):
-                writer.write(part)
-            writer.finish()
-            if self.chance(.4):
-                writer.flush()
-        writer.flush()
-        return [chunk for _, chunk in writer.complete]
-
-    def odd_chunk(self, source: int) -> Chunk:
-        """A chunk that no writer made so."""
-        chunk_id = self.pick(0, 0, 1, 1, 2, 3, 4, self.random.randrange(12), 1023, 1024, 2 ** 32 - 1)
-        contents = self.random.choices(CONTENTS, k=self.pick(1, 1, 1, 2, 3))
-        payload = b''.join(self.pick(four_bytes, varint)(len(content)) + content for content in contents)
-        count = len(contents)
-        if self.chance(.15):
-            payload, count = payload + DROP_MARK, count + 1
-        count += self.pick(0, 0, 0, 0, 1, -1, 1023 - count)
-        patches = [Patch(self.pick(chunk_id, 0, 1, 2), self.pick(0, 1, 4, 5, self.random.randrange(40), self.payload_of(source) - 4, 2 ** 32 - 1),
-                         self.random.randbytes(4), self.chance(.6)) for _ in range(self.pick(0, 0, 0, 1, 2, 16))]
-        return Chunk(chunk_id, count, self.pick(0, 0, 0, 1, 2, 2, 3, 4, 6, 7, 63), bytearray(payload), patches)
-
-    def commit(self, source: int, chunk: Chunk) -> bytes:
-        target = self.sources[source][0] + 1
-        if self.chance(.03):
-            target = self.random.randrange(len(self.buffers)) + 1
-        payload = bytes(chunk.payload)
-        payload = payload.rstrip(b'\0') if self.chance(.5) else payload
-        head = chunk.count | chunk.flags << 10
-        patches = b''.join(one.chunk_id.to_bytes(4, 'little') + one.offset.to_bytes(4, 'little') + one.bytes + bytes([one.last])
-                           for one in chunk.patches)
-        return (bytes([1, target]) + chunk.chunk_id.to_bytes(4, 'little') + (source + 1).to_bytes(2, 'little')
-                + head.to_bytes(2, 'little') + bytes([len(chunk.patches)]) + patches + payload)
-
-    def frames(self) -> list[bytes]:
-        made = []
-        for source in range(len(self.sources)):
-            chunks = self.written(source) if self.chance(.8) else []
-            chunks += [self.odd_chunk(source) for _ in range(self.pick(0, 0, 1, 4, 10))]
-            made += [self.commit(source, chunk) for chunk in chunks]
-        window = self.pick(1, 2, 5, 100)
-        for at in range(0, len(made), window):
-            some = made[at:at + window]
-            self.random.shuffle(some)
-            made[at:at + window] = some
-        for _ in range(self.pick(0, 0, 1, 3) if self.buffers else 0):
-            made.insert(self.random.randrange(len(made) + 1), bytes([2, self.random.randrange(len(self.buffers)) + 1]))
-        return [*made, b'\x03']
-
-    def odd_frames(self) -> list[bytes]:
-        """Frames of which one isn't of its form, mostly."""
-        frames = self.frames()
-        at = self.random.randrange(len(frames))
-        frames[at] = self.random.choice([b'', b'\x00', b'\x04', b'\x03\x00', b'\x03', b'\x02', b'\x02\x00', b'\x02\x09', b'\x02\x01\x01', b'\x01',
-                                         frames[at] + bytes(self.pick(1, 400, 70000)), frames[at][:-1], edited(frames[at], self.random, b'\0\1\2\x11\xff')])
-        return frames
-
-    def make(self) -> bytes:
-        text = self.odd_text() if self.chance(.3) else self.text().encode()
-        frames = self.odd_frames() if self.chance(.2) else self.frames()
-        stream = b''.join(len(frame).to_bytes(4, 'little') + frame for frame in frames)
-        if self.chance(.1):
-            stream = self.pick(stream[:self.random.randrange(len(stream))], edited(stream, self.random, bytes(range(256))), stream + b'\0')
-        divider = b'==\n' if not text or text.endswith(b'\n') else b'\n==\n'
-        return text + self.pick(*[divider] * 60, b'==', b'') + stream
-
-
-def stream(seed: object) -> bytes:
-    return StreamMaker(seed).make()

@@ -4,7 +4,8 @@ branches of the definitions it takes."""
 from model import reading, service
 from model.buffers import BAD_CHUNK, DISCARDED, DUPLICATE, REWRITTEN, TOO_FAR, TraceBuffer
 from model.chunks import Unreadable, read_fragments
-from model.reading import CUT, INTO_LOST, MARKED, OPEN, Stop, delivers, row_of
+from model.reading import CUT, INTO_LOST, MARKED, OPEN, Stop, delivers, is_accepted, row_of
+from model.wire import MARK, Fault, read_field
 
 # Branches of the definitions that few histories take.
 BRANCHES = (
@@ -14,8 +15,14 @@ BRANCHES = (
     'a partial record that the cursor alone makes a double', 'a final partial record that is lost unread', 'a partial record that shuts a discard buffer',
     'an arrival of which more was passed', 'an arrival of which just all was passed', 'padding that meets a record', 'a patch outside the last fragment', 'a patch for a chunk that is gone',
     'a commit with patches', 'a chunk that is too far', 'a chunk out of order', 'a double', 'a chunk that is unreadable', 'a partial record that grows',
+    'a packet that isn\'t whole fields', 'a packet with a field of the service', 'a packet with a mark in front',
+    'a field that goes on in the next chunk',
     'a read that ends at its limit', 'a read that ends at a part', 'a read that ends at an open patch', 'a read that ends at a close',
 )
+
+
+# Those of the packet check.
+REFUSED = {'a packet that isn\'t whole fields', 'a packet with a field of the service'}
 
 
 class Notes:
@@ -216,7 +223,29 @@ def branches_of(sequence, chain):
         return {'a chain that is cut by its next chunk' if chain.behind[0] in sequence.live
                 else 'a chain that runs into a chunk that never came' if chain.behind[0] < sequence.end
                 else 'a chain that its sequence\'s end cuts'}
-    return {'a chain that awaits a patch when its sequence is closed'} if chain.awaits() and not is_headless else set()
+    if is_headless:
+        return set()
+    return {'a chain that awaits a patch when its sequence is closed'} if chain.awaits() else branches_of_check(chain)
+
+
+def branches_of_check(chain):
+    """What the packet check finds of a whole packet."""
+    packet, first = chain.packet(), chain.pieces[0].bytes
+    if not is_accepted(packet):
+        return {'a packet with a field of the service' if is_fields(packet) else 'a packet that isn\'t whole fields'}
+    return ({'a packet with a mark in front'} if packet.startswith(MARK) else set()) \
+        | ({'a field that goes on in the next chunk'} if not is_fields(first) else set())
+
+
+def is_fields(data):
+    """The bytes are whole fields."""
+    at = 0
+    try:
+        while at < len(data):
+            *_, at = read_field(data, at, len(data))
+    except Fault:
+        return False
+    return True
 
 
 PLAIN_CHAIN, PLAIN_READ = reading.chain_from, reading.read_sequence

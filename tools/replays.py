@@ -2,28 +2,41 @@
 
 import accounts
 import noted
+import recorder
 import scenario_terms
 import worlds
 import writer_scripts
+from account_proofs import chosen, noted_steps
 from accounts import Account, define
-from antt_text import Statement, flag, listed, octets, record
+from antt_text import Statement, flag, listed, nested, octets, record
 from model.limits import MOST_NUMBER
-from model.report import report_of
-from scenario_terms import calls_term, each, limit_term, policy_term, scenario_term, service_spec, setup_term, specs_term, text_term, view_specs, \
-    with_wrong_placed, world_term
+from model.report import counts_read, report_of
+from scenario_terms import asked_term, calls_term, each, limit_term, policy_term, scenario_term, service_spec, setup_term, specs_term, \
+    text_term, view_specs, with_wrong_placed, world_term
 
 WORDS = f'''-- What a replay is compared in.
-{scenario_terms.USES}use Rattle.trace_base.specs.declared.limits.TheConstants.{{BYTES_PER_KB}}
+{scenario_terms.USES}use Rattle.std.specs.Prelude.{{◌==◌, false, Option, None, Some, slice_index_or}}
+use Rattle.std.specs.List.{{list_any}}
+use Rattle.trace_base.specs.declared.limits.TheConstants.{{BYTES_PER_KB}}
+use Rattle.trace_model.specs.Buffers.{{Buffer}}
+use Rattle.trace_model.specs.Delivery.{{records_of}}
+use Rattle.trace_model.specs.Tells.{{Tells}}
 use Rattle.trace_model.specs.Enough.{{has_chunks_enough, has_bytes_enough}}
 use Rattle.scenario_text.specs.declared.scenario.BufferLine.{{BufferLine}}
+use Rattle.scenario_text.specs.declared.scenario.NumberedLine.{{NumberedLine}}
 use Rattle.scenario_text.specs.Clones.{{clones_in, without_clones}}
 use Rattle.scenario_text.specs.Emissions.{{emitted_in}}
+use Rattle.scenario_text.specs.Raws.{{is_raw}}
 use Rattle.buffer_clone.specs.Clones.{{clone_records}}
+use Rattle.chunk_plain.specs.Setup.{{sequence_of}}
+use Rattle.chunk_plain.specs.Views.{{Committed}}
+use Rattle.world_model.specs.Accounts.{{InOrder, NoneCommitted, all_images}}
 use Rattle.replay_model.specs.Acts.{{Act, calls_in}}
+use Rattle.replay_model.specs.ActNotes.{{ActNote, act_notes}}
 use Rattle.replay_model.specs.Clones.{{clone_in}}
 use Rattle.replay_model.specs.Does.{{Does, dropped_call}}
 use Rattle.replay_model.specs.Enough.{{closed_from, loads_from, room_of}}
-use Rattle.replay_model.specs.Flushes.{{FlushNote, flush_notes, flush_sums}}
+use Rattle.replay_model.specs.Flushes.{{flush_sums}}
 use Rattle.replay_model.specs.Played.{{buffers_of, records_in, report_of}}
 use Rattle.replay_model.specs.Schedule.{{schedule_of}}
 
@@ -35,10 +48,10 @@ slice_between from to xs = drop from (take to xs)
 abbrev pub by_then : WriterView → (calls completed : ℕ) → List BegunChunk → WriterView
 by_then view calls completed held = record view {{ calls = take calls view.calls; begun = take completed view.begun ++ held }}
 
--- what each act did for flush requests, where these worlds stood before, between and behind them
-abbrev pub noted_by : List Act → List World → List FlushNote
-noted_by (act ∷ acts) (old ∷ new ∷ worlds) = flush_notes act old new ++ noted_by acts (new ∷ worlds)
-noted_by acts worlds = []
+-- what each act left for the report, where these worlds stood before, between and behind them, and the buffers were these at first
+abbrev pub noted_by : Setup → List Buffer → List Act → List World → List ActNote
+noted_by setup buffers (act ∷ acts) (old ∷ new ∷ worlds) = act_notes setup buffers act old new ++ noted_by setup buffers acts (new ∷ worlds)
+noted_by setup buffers acts worlds = []
 
 -- what acts ask of so many
 abbrev pub acted_of_each : List Act → (place : ℕ) → List WriterSpec → List (List Call)
@@ -52,26 +65,46 @@ is_enough_by scenario =
     && has_bytes_enough (map (λ (line : BufferLine). line.kb * BYTES_PER_KB) scenario.buffers) (map room_of scenario.producers)
     (loads_from scenario.lines 1 scenario.writers)
 
--- A replay: what its lines ask, its schedule, what was noted for flush requests, its trace and its report.
+-- A replay: what its lines ask, its schedule, what was noted for the report, its trace and its report.
 pub record IsReplayed (scenario : Parts) (specs : List ProducerSpec) (setup : Setup) (world : World) (worlds : List World) (acts : List Act)
-    (asked acted : List (List Call)) (emitted : List (List (List ℕ))) (clones : List ℕ) (notes : List FlushNote) (sums trace text closed : List ℕ)
-    (enough : Bool) : Type 0 where
+    (asked acted : List (List Call)) (emitted : List (List (List ℕ))) (clones : List ℕ) (notes : List ActNote) (sums trace text closed : List ℕ)
+    (enough commits : Bool) : Type 0 where
   pub laid : setup_of specs scenario.writers ≡ setup
   pub clones_are : clones_in scenario.lines ≡ clones
+  pub none_without : clones_in (without_clones scenario).lines ≡ []
   pub schedule : schedule_of (without_clones scenario) ≡ acts
   pub asks : asked_of_each scenario 1 scenario.writers ≡ asked
   pub acts_ask : acted_of_each acts 0 scenario.writers ≡ acted
   pub emits : emitted_in scenario ≡ emitted
-  pub noted : noted_by acts worlds ≡ notes
+  pub noted : noted_by setup (buffers_of scenario setup) acts worlds ≡ notes
   pub summed : flush_sums notes world.service.taken ≡ sums
   pub written : trace_of (records_in scenario setup world) ≡ trace
   pub reported : report_of scenario setup world notes ≡ text
   pub closes : closed_from scenario.lines 1 scenario.producers ≡ closed
   pub suffices : is_enough_by scenario ≡ enough
+  pub has_raws : list_any (λ (line : NumberedLine). is_raw line.what) scenario.lines ≡ commits
 
 -- the records of the clone of this buffer in a world
 abbrev pub cloned_in : Parts → Setup → World → (number : ℕ) → List ℕ
 cloned_in scenario setup world number = trace_of (clone_records (clone_in scenario setup world number))
+
+-- Nothing comes by a commit in the name of the writer at this place, which holds these images at the end: what is noted of its sequence is in
+-- order, and the sequence's records tell of the packets that its lines have it emit.
+pub record IsPlain (scenario : Parts) (setup : Setup) (world : World) (place : ℕ) (held : List Image) : Type 0 where
+  pub none : NoneCommitted world.service (sequence_of place)
+  pub order : InOrder (all_images (writer world place) held) world.service (sequence_of place) 0 false [] world.service.events
+  pub told : Tells (slice_index_or (emitted_in scenario) place []) (sequence_of place)
+      (records_of (sequence_of place) (records_in scenario setup world))
+
+-- the image that came by the commit is of this sequence
+abbrev pub is_of : (sequence : ℕ) → Option Committed → Bool
+is_of sequence None = false
+is_of sequence (Some committed) = committed.image.sequence == sequence
+
+-- none of these is
+abbrev pub AllElsewhere : (sequence : ℕ) → List Committed → Type 0
+AllElsewhere sequence [] = ⊤
+AllElsewhere sequence (one ∷ others) = (is_of sequence (Some one) ≡ false) × AllElsewhere sequence others
 
 -- what an act made of a world
 abbrev pub Did : Parts → Setup → Act → World → World → Type 0
@@ -82,12 +115,23 @@ abbrev pub Lost : (place : ℕ) → Call → World → World → Type 0
 Lost place call old new = (writer new place).calls ≡ (writer old place).calls ++ dropped_call call
 '''
 
-LEMMAS = scenario_terms.LEMMAS
+LEMMAS = '''use Rattle.std.proofs.Common.{◌∙◌, ◌==◌, false, List, [], ◌∷◌, Option, Some, ap}
+use Rattle.std.specs.Prelude.{slice_get}
+use Rattle.chunk_plain.specs.Views.{Committed}
+use Rattle.computed.specs.Words.{AllElsewhere, is_of}
+''' + scenario_terms.LEMMAS + '''
+pub none_among : (sequence : ℕ) (commits : List Committed) → AllElsewhere sequence commits
+    → (place : ℕ) (committed : Committed) → slice_get commits place ≡ Some committed → (committed.image.sequence == sequence) ≡ false
+none_among sequence [] all place committed is = absurd (cc)
+none_among sequence (one ∷ others) (here, there) zero committed is = ap (is_of sequence) (sym is) ∙ here
+none_among sequence (one ∷ others) (here, there) (suc place) committed is = none_among sequence others there place committed is
+'''
 
 HEAD = f'''-- Replays.
-{scenario_terms.HEAD}use Rattle.replay_model.specs.Acts.{{Act, Ask, Request, Answer, Collect, Scrape, CloseProducer, ReadAll}}
-use Rattle.replay_model.specs.Flushes.{{FlushNote, Requested, Answered}}
-use Rattle.computed.specs.Words.{{IsReplayed, Did, Lost, begun_of, cloned_in, contents_of, taken_first, by_then, served_by}}
+{scenario_terms.HEAD}use Rattle.loss_report.specs.declared.raws.RawAnswer.TheVariants as answer
+use Rattle.replay_model.specs.Acts.{{Act, Ask, Request, Answer, Collect, Scrape, CloseProducer, ReadAll, CommitRaw}}
+use Rattle.replay_model.specs.ActNotes.{{ActNote, Requested, Answered, Told}}
+use Rattle.computed.specs.Words.{{IsReplayed, IsPlain, Did, Lost, begun_of, cloned_in, contents_of, taken_first, by_then, served_by}}
 {scenario_terms.LIMIT}'''
 
 PROOF_HEAD = '''use Rattle.std.proofs.Common.{◌≡◌, ◌<◌, ◌≤◌, ℕ, suc, ◌+◌, true, false, List, [], ◌∷◌, ◌++◌, refl, inl, inr, arith}
@@ -98,17 +142,24 @@ use Rattle.chunk_plain.specs.Views.{taken_of}
 use Rattle.replay_model.specs.Does.{is_shut}
 use Rattle.service_core.specs.Taking.{ShowsOther}
 use Rattle.computed.specs.Words.{served_by, contents_of, slice_between}
-use Rattle.computed.proofs.Everywhere.{at_each, from_first}
+use Rattle.computed.proofs.Everywhere.{at_each, from_first, none_among}
 '''
 
 HIDDEN, TIMES_CHARACTERS = scenario_terms.HIDDEN, scenario_terms.TIMES_CHARACTERS
 MOST_ACTS = 60
 MOST_CHARACTERS = 20000
+MOST_WRITTEN = 3000     # bytes of a trace
 MOST_LOOKED = 4         # chunks of a producer of which each look is written out
 
 # What some of the replays have.
-KINDS = ('Ask', 'Request', 'Answer', 'Collect', 'Scrape', 'CloseProducer', 'ReadAll', 'answers behind a packet', 'requests that a closed producer leaves open',
-         'reads with a limit', 'parts of chunks', 'packets that are lost', 'taken chunks with patches', 'clones', 'clones with packets', 'enough', 'several buffers', 'several producers',
+RAWS = ('kept', 'rewritten', 'duplicate', 'too far', 'discarded', 'bad chunk', 'wrong target')
+KINDS = ('Ask', 'Request', 'Answer', 'Collect', 'Scrape', 'CloseProducer', 'ReadAll', 'CommitRaw', *(f'raws that are {answer}' for answer in RAWS),
+         'raws with a patch', 'patches of raws that are put in', 'packets of sequences with raws', 'chunks that come behind a raw of theirs',
+         'clones with raws', 'plain writers beside raws', 'plain writers of which no read tells all', 'packets that the check refuses',
+         'answers behind a packet', 'answers to several requests that say less than was taken', 'requests that a closed producer leaves open',
+         'reads with a limit', 'parts of chunks',
+         'packets that are lost', 'taken chunks with patches', 'clones', 'clones with packets',
+         'clones that mark anew', 'enough', 'enough for the packets of the first writer alone', 'several buffers', 'several producers',
          'delivered', 'dropped', 'overwritten', 'discarded', 'cut', 'drop', 'stall', 'stall:N')
 
 
@@ -120,7 +171,16 @@ def act_term(act):
         return f'Ask {rest[0]} ({writer_scripts.call_term(rest[1])})'
     if kind == 'ReadAll':
         return f'ReadAll {rest[0]} {limit_term(rest[1])}'
+    if kind == 'CommitRaw':
+        return f'CommitRaw {rest[0]} {asked_term(*rest[1:])}'
     return ' '.join([kind, *map(str, rest)])
+
+
+def answer_term(answer):
+    """The answer to a line `raw`."""
+    words = [word for word in answer.split() if not word.isdigit()]
+    numbers = [word for word in answer.split() if word.isdigit()]
+    return ' '.join(['answer.' + ''.join(word.capitalize() for word in words), *numbers])
 
 
 # A replay
@@ -164,13 +224,16 @@ class Replay(Account):
             service = f'served_by service_{self.name} {events} {looks} {listed(map(str, moment.taken))}'
             yield record(chunks='[]', writers=listed(views), service=service)
 
-    def flush_notes(self):
-        """What the acts did for flush requests."""
+    def act_notes(self):
+        """What the acts left for the report."""
+        answers = iter(self.service.raws)
         for act, moment, behind in zip(self.acts, self.service.moments, self.service.moments[1:]):
             if act[0] == 'Request':
                 yield 'Requested'
             elif act[0] == 'Answer' and behind.calls != moment.calls:
                 yield f'Answered {act[1]} {behind.completed[act[1]]}'
+            elif act[0] == 'CommitRaw':
+                yield f'Told ({answer_term(next(answers)[1])})'
 
     def acted(self):
         return [[act[2] for act in self.acts if act[0] == 'Ask' and act[1] == place] for place in range(len(self.writers))]
@@ -203,9 +266,10 @@ def whole_fact(replay, text):
     sums = listed(str(replay.service.chunks_of(request)) for request in replay.service.requests)
     trace = octets(b''.join(replay.world.out))
     fact = (f'IsReplayed scenario_{name} {specs_term(replay.scenario)} setup_{name} world_{name} {between} acts_{name} {asked} {acted} {emitted} {clones} '
-            f'{listed(replay.flush_notes())} {sums} {trace} {text_term(text)} {listed(map(str, sorted(closed_by(replay.scenario))))} '
-            f'{flag(worlds.is_enough(replay.world))}')
-    fields = ('laid', 'clones_are', 'schedule', 'asks', 'acts_ask', 'emits', 'noted', 'summed', 'written', 'reported', 'closes', 'suffices')
+            f'{listed(replay.act_notes())} {sums} {trace} {text_term(text)} {listed(map(str, sorted(closed_by(replay.scenario))))} '
+            f'{flag(worlds.is_enough(replay.world))} {flag(replay.service.raws)}')
+    fields = ('laid', 'clones_are', 'none_without', 'schedule', 'asks', 'acts_ask', 'emits', 'noted', 'summed', 'written', 'reported', 'closes', 'suffices',
+              'has_raws')
     return fact, record(**{one: 'refl' for one in fields})
 
 
@@ -215,8 +279,20 @@ def closed_by(scenario):
 
 def clone_facts(replay):
     """What each clone has."""
-    for at, number, trace in replay.world.clones:
-        yield f'(cloned_in scenario_{replay.name} setup_{replay.name} world_{replay.name}_{at} {number} ≡ {octets(trace)})', 'refl'
+    for clone in replay.world.clones:
+        yield f'(cloned_in scenario_{replay.name} setup_{replay.name} world_{replay.name}_{clone.at} {clone.of} ≡ {octets(clone.trace)})', 'refl'
+
+
+def plain_facts(replay):
+    """Where chunks are committed: of each writer in whose name none is, that all is as if none were."""
+    commits = sum(event[0] == 'commit' for event in replay.events)
+    for writer in replay.writers if commits else ():
+        if not replay.scenario.has_raw(writer.place + 1):
+            none = f'none_among {writer.sequence} service_{replay.name}.commits {nested(["refl"] * commits)}'
+            records = [one for number, one in replay.records if number == writer.sequence]
+            order = chosen(noted_steps(replay.events, writer, none), 'refl')
+            yield (f'IsPlain scenario_{replay.name} setup_{replay.name} world_{replay.name} {writer.place} {listed(writer.images()[writer.completed:])}',
+                   record(none=none, order=order, told=worlds.told_term(worlds.told_places(writer.emitted, records, writer.sequence))))
 
 
 def act_facts(replay):
@@ -230,10 +306,17 @@ def act_facts(replay):
             yield did, 'refl'
         elif kind == 'ReadAll':
             yield did, record(writers='refl', notes='refl')
-        elif kind in ('Collect', 'CloseProducer', 'Scrape') and replay.range_of(act[1])[1] <= MOST_LOOKED:
+        elif kind == 'CommitRaw':
+            yield did, record(opened='refl', writers='refl', notes='refl')
+        elif takes_few(replay, act):
             yield did, collect_proof(replay, at)
         elif kind == 'Ask' and calls_behind(replay, at)[1:] or kind == 'Ask' and calls_behind(replay, at) == [('Begun', False)]:
             yield f'Lost {act[1]} ({writer_scripts.call_term(act[2])}) {old} {new}', 'refl'
+
+
+def takes_few(replay, act):
+    """The act has chunks taken, of so few that all of it is computed."""
+    return act[0] in ('Collect', 'CloseProducer', 'Scrape') and replay.range_of(act[1])[1] <= MOST_LOOKED
 
 
 def calls_behind(replay, at):
@@ -317,7 +400,7 @@ def collect_proof(replay, at):
 def statement_of(replay):
     text = report_of(replay.service)
     whole, proof = whole_fact(replay, text)
-    facts = [*clone_facts(replay), *act_facts(replay)]
+    facts = [*plain_facts(replay), *clone_facts(replay), *act_facts(replay)]
     spoilt, _ = whole_fact(replay, with_wrong_placed(text))
 
     def specs(first):
@@ -340,29 +423,69 @@ def counted(replay, counts):
         counts['reads with a limit'] += act[0] == 'ReadAll' and act[2] != MOST_NUMBER
         counts['packets that are lost'] += act[0] == 'Ask' and any(call in (('Begun', False), ('GivenUp',)) for call in calls_behind(replay, at))
         seen |= {act[1]} & closed_by(scenario) if act[0] == 'CloseProducer' else set()
+        taken = replay.events[replay.moments[at][0]:replay.moments[at + 1][0]] if takes_few(replay, act) else []
+        counts['parts of chunks'] += sum(event[0] == 'partial' for event in taken)
+        counts['taken chunks with patches'] += sum(event[0] == 'patched' for event in taken)
         counts['requests that a closed producer leaves open'] += act[0] == 'Request' and bool(seen)
-    counts['parts of chunks'] += sum(event[0] == 'partial' for event in replay.events)
-    counts['taken chunks with patches'] += sum(event[0] == 'patched' for event in replay.events)
+    counted_raws(replay, counts)
+    counts['answers to several requests that say less than was taken'] += sum(late_answers(replay))
     counts['clones'] += len(replay.world.clones)
-    counts['clones with packets'] += sum(bool(trace) for *_, trace in replay.world.clones)
+    counts['clones with packets'] += sum(bool(clone.trace) for clone in replay.world.clones)
+    counts['clones that mark anew'] += sum(clone.marks_anew for clone in replay.world.clones)
     counts['enough'] += worlds.is_enough(replay.world)
+    counts['enough for the packets of the first writer alone'] += not worlds.is_enough(replay.world) and worlds.is_enough(replay.world, True)
     counts['several buffers'] += len(scenario.buffers) > 1
     counts['several producers'] += len(scenario.producers) > 1
     for writer in replay.writers:
         counts[{'Drops': 'drop', 'Stalls': 'stall'}.get(policy_term(writer.writer.spec), 'stall:N')] += 1
-        for word, value in writer.counts.items():
+        for word, value in writer.counts.items() if not scenario.has_raw(writer.place + 1) else ():
             counts[word] += value
+
+
+def late_answers(replay):
+    """Of each answer, whether it is to several requests, and says less chunks than were taken in the end."""
+    due = [0] * len(replay.writers)
+    for act, moment, behind in zip(replay.acts, replay.service.moments, replay.service.moments[1:]):
+        if act[0] == 'Request':
+            due = [one + 1 for one in due]
+        elif act[0] == 'Answer' and behind.calls != moment.calls:
+            yield due[act[1]] > 1 and behind.completed[act[1]] < replay.service.taken[act[1]]
+            due[act[1]] = 0
+
+
+def counted_raws(replay, counts):
+    """Counts what comes of lines `raw`, and of packets that the check refuses."""
+    for _, answer in replay.service.raws:
+        counts[f'raws that are {answer.rstrip("0123456789 ")}'] += 1
+    raws = [event for event in replay.events if event[0] == 'commit']
+    counts['raws with a patch'] += sum(bool(event[5]) for event in raws)
+    counts['patches of raws that are put in'] += replay.service.applied
+    for clone in replay.world.clones:
+        counts['clones with raws'] += any(act[0] == 'CommitRaw' and act[2] == clone.of for act in replay.acts[:clone.at])
+    for buffer in replay.service.buffers:
+        counts['packets that the check refuses'] += bool(recorder.notes_of(buffer).branches & recorder.REFUSED)
+    for writer in replay.writers if raws else ():
+        read = counts_read(writer.sequence, replay.service.buffers[writer.buffer - 1])
+        if replay.scenario.has_raw(writer.place + 1):
+            before = {event[3] for event in raws if event[1] == writer.sequence}
+            doubles = {event[2] for event in replay.events if event[:2] == ('arrive', writer.sequence) and event[4] == 'duplicate'}
+            counts['packets of sequences with raws'] += read['delivered']
+            counts['chunks that come behind a raw of theirs'] += len(before & doubles)
+        else:
+            counts['plain writers beside raws'] += read['delivered'] and any(replay.of(event[1]).buffer == writer.buffer for event in raws)
+            counts['plain writers of which no read tells all'] += any(writer.counts[word] != value for word, value in read.items())
 
 
 def replays(first):
     """Replays with a packet, from this seed on."""
     noted.noting()
     for seed in range(first, first + noted.MOST_SEEDS):
-        played = noted.replayed(seed)
+        maker = noted.SmallRawMaker if seed % 2 else noted.SmallMaker
+        played = noted.replayed(maker(seed, 'csrxqk'))
         if not played or len(played.service.acts) > MOST_ACTS or not any(writer.begun for writer in played.service.writers):
             continue
         replay = Replay(str(seed), played)
-        if len(replay_specs(replay)) <= MOST_CHARACTERS:
+        if len(replay_specs(replay)) <= MOST_CHARACTERS and len(b''.join(played.out)) <= MOST_WRITTEN:
             yield replay
 
 

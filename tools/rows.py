@@ -205,6 +205,26 @@ def ringed(placed: int) -> str:
     return f'buffer 1 ring bytes 4096 placed {placed} {NONE}'
 
 
+def raw_rows():
+    """Chunks that lines `raw` commit."""
+    yield played('chunks that a line commits', SET + " / writer 1 1 drop / raw 1 0 1 0 1 x'024005' / raw 1 0 1 0 1 x'024006' / raw 1 2000 1 0 1 x'024006' "
+                 "/ raw 1 1 1 0 1 x'025005' / p 2 8:7", '0A 07 40 05 50 02 D0 02 01 0A 07 40 07 50 03 D0 02 01',
+                 f'buffer 1 ring bytes 65536 placed 3 {NONE} / ' + sequence(2, 2, delivered=1, cut=1) + ' / ' + sequence(3, 1, delivered=1)
+                 + ' / raw 5 kept / raw 6 duplicate / raw 7 too far / raw 8 kept')
+    yield played('a chunk that cannot be read', SET + " / raw 1 0 1 0 1 x'80848000'", '',
+                 f'buffer 1 ring bytes 65536 placed 0 {NONE} / ' + sequence(2, 0) + ' / raw 4 bad chunk 0')
+    yield played('a chunk for another buffer', "buffer 64 ring / buffer 64 ring / producer 1 4096 14 / writer 1 1 drop / raw 1 0 1 0 2 x'024005'", '',
+                 f'buffer 1 ring bytes 65536 placed 0 {NONE} / buffer 2 ring bytes 65536 placed 0 {NONE} / ' + sequence(2, 0) + ' / raw 5 wrong target 1')
+    yield played('a patch that comes with its chunk', SET + " / raw 1 0 1 4 1 x'06400540014002' 0 3 x'40034004' last",
+                 '0A 0B 40 05 40 03 40 04 50 02 D0 02 01')
+    yield refused(SET + " / raw 1 0 1 0 1 x'0'", 'bad line')
+    yield refused(SET + " / raw 1 0 1 64 1 x'00'", 'number out of range')
+    yield refused(SET + " / raw 2 0 1 0 9 x'00'", 'no such buffer')
+    yield refused(SET + " / raw 1 0 1 0 1 x'" + '00' * 285 + "'", 'raw too long')
+    yield refused(SET + " / x 1 / raw 1 0 1 0 1 x'" + '00' * 285 + "'", 'producer closed')
+    yield refused(SET + " / raw 1 0 1 0 1 x'00'", 'not under run', 'run')
+
+
 def stream_rows():
     """Sessions from a configuration and a stream of commits."""
     one = ('0A 07 40 05 50 02 D0 02 01', f'{ringed(1)} / {sequence(2, 1, delivered=1)} / stream commits 1 refused 0')
@@ -279,7 +299,7 @@ def content_of(file: str) -> bytes:
 
 
 def rows():
-    for some in (cutting_rows, buffer_rows, refusal_rows, clone_rows, stream_rows, command_rows, example_rows):
+    for some in (cutting_rows, buffer_rows, refusal_rows, clone_rows, raw_rows, stream_rows, command_rows, example_rows):
         yield from some()
 
 

@@ -67,7 +67,7 @@ HEAD = f'''-- Runs.
 {scenario_terms.HEAD}use Rattle.computed.specs.Words.{{IsComputed, IsLost, begun_of, contents_of, taken_first, served_by, front_of}}
 {scenario_terms.LIMIT}'''
 
-PROOF_HEAD = '''use Rattle.std.proofs.Common.{◌≡◌, ◌<◌, ◌≤◌, ℕ, suc, ◌+◌, ◌-◌, ◌^◌, true, false, List, [], ◌∷◌, ◌++◌, length, take, drop, refl, inl, inr, arith}
+PROOF_HEAD = '''use Rattle.std.proofs.Common.{◌≡◌, ◌<◌, ◌≤◌, ℕ, suc, ◌+◌, ◌-◌, ◌*◌, ◌^◌, true, false, List, [], ◌∷◌, ◌++◌, length, take, drop, refl, inl, inr, arith}
 use Rattle.std.specs.Prelude.{slice_index}
 use Rattle.std.specs.Int.{bit_at}
 use Rattle.std.specs.Fmt.{digits}
@@ -277,7 +277,7 @@ def counted(run, counts):
     counts['collected by a line'] += bool(run.lines_of('c'))
     counts['scraped by a line'] += bool(run.lines_of('s'))
     counts['parts of chunks'] += sum(event[0] == 'partial' for event in run.events)
-    counts['collected by nobody'] += sum(not is_collected(run, number) for number in range(1, len(scenario.producers) + 1))
+    counts['collected by nobody'] += sum(not allowed(run, number) and not has_asker(run, number) for number in range(1, len(scenario.producers) + 1))
     counts['chunks taken for a writer that asks'] += not run.lines_of('c') and not run.lines_of('s') and any(run.done.taken)
     for writer in run.writers:
         counts['answers'] += len(writer.writer.answers)

@@ -1,10 +1,11 @@
 """What replays and runs are said in: scenarios and tables as terms, the views of their seats, and words and lemmas that both rest on."""
 
 import accounts
+import histories
 import noted
 import writer_scripts
 from accounts import define
-from antt_text import listed, octets, record
+from antt_text import flag, listed, octets, record
 from model.fields import Begin, End, Number
 from model.limits import MOST_NUMBER
 
@@ -18,7 +19,7 @@ use Rattle.scenario_text.specs.Accepted.{calls_asked}
 use Rattle.chunk_plain.specs.declared.setup.ProducerSpec.{ProducerSpec}
 use Rattle.chunk_plain.specs.Laying.{setup_of}
 use Rattle.chunk_plain.specs.Setup.{Setup}
-use Rattle.chunk_plain.specs.Views.{BegunChunk, Completed, Content, ServiceView, Taken, WriterView}
+use Rattle.chunk_plain.specs.Views.{BegunChunk, Commit, Completed, Content, Noted, ServiceView, Taken, WriterView}
 use Rattle.chunk_plain.specs.World.{World, writer}
 '''
 
@@ -42,10 +43,20 @@ abbrev pub taken_by : List ℕ → List Taken → List Taken
 taken_by (count ∷ counts) (taken ∷ others) = taken_first count taken.contents ∷ taken_by counts others
 taken_by counts others = []
 
+-- how many of these notes are of commits
+abbrev pub commits_in : List Noted → ℕ
+commits_in [] = 0
+commits_in (Commit place ∷ notes) = suc (commits_in notes)
+commits_in (note ∷ notes) = commits_in notes
+
 -- the service's view when it had noted so many events and looks, and taken so many chunks
 abbrev pub served_by : ServiceView → (events looks : ℕ) → List ℕ → ServiceView
-served_by view events looks counts =
-    record view { looks = take looks view.looks; taken = taken_by counts view.taken; events = take events view.events }
+served_by view events looks counts = record view {
+  looks = take looks view.looks;
+  taken = taken_by counts view.taken;
+  events = take events view.events;
+  commits = take (commits_in (take events view.events)) view.commits;
+}
 
 -- what the lines ask of so many writers
 abbrev pub asked_of_each : Parts → (number : ℕ) → List WriterSpec → List (List Call)
@@ -113,7 +124,7 @@ def policy_term(spec):
 
 
 def spec_term(spec):
-    return record(producer=spec.producer, buffer=spec.buffer, policy=policy_term(spec))
+    return record(producer=spec.producer, buffer=spec.buffer, policy=policy_term(spec), **{'from': spec.first_id})
 
 
 def node_term(part):
@@ -130,7 +141,17 @@ def limit_term(limit):
     return 'no_limit' if limit == MOST_NUMBER else str(limit)
 
 
+def asked_term(target, chunk):
+    """A chunk that a line asks to be committed for this buffer."""
+    patch = 'None'
+    for one in chunk.patches:
+        patch = f'Some ({record(chunk_id=one.chunk_id, offset=one.offset, bytes=octets(one.bytes), last=flag(one.last))})'
+    return '(' + record(chunk_id=chunk.chunk_id, count=chunk.count, flags=chunk.flags, buffer=target, payload=octets(chunk.payload), patch=patch) + ')'
+
+
 def line_term(line):
+    if line.kind == 'raw':
+        return record(line=line.number, what=f'line.Raw {line.of} {asked_term(line.target, line.chunk)}')
     nodes = listed(map(node_term, line.parts))
     what = {'p': f'Packet {line.of} {nodes}', 'b': f'Begin {line.of}', 'a': f'Add {line.of} {nodes}',
             'n': f'Nest {line.of} {line.parts[0].field if line.kind == "n" else 0}', 'u': f'Unnest {line.of}', 'e': f'End {line.of}',
@@ -192,12 +213,19 @@ def view_specs(writer, asked, calls, letters):
                             calls=calls_term(calls), letters=letters)))
 
 
+def committed_term(event):
+    """What came by a commit."""
+    _, sequence, _, position, (count, flags, payload), patches, _ = event
+    image = record(sequence=sequence, chunk_id=position, count=count, flags=flags, payload=octets(payload))
+    return record(image=image, patches=listed(histories.patch_of(patch.chunk_id, patch) for patch in patches))
+
+
 def service_spec(account, looks, letters):
     """The definition of the service's part."""
     taken = listed(f'taken_first {writer.taken} (contents_of {writer.buffer} images_{writer.name} patches_{writer.name})' for writer in account.writers)
     return define(f'service_{account.name}', 'views.ServiceView',
-                  record(looks=listed(looks), taken=taken, reading='[]', events=listed(map(accounts.noted_term, account.events)), commits='[]',
-                         letters=letters))
+                  record(looks=listed(looks), taken=taken, reading='[]', events=listed(map(accounts.noted_term, account.events)),
+                         commits=listed(committed_term(event) for event in account.events if event[0] == 'commit'), letters=letters))
 
 
 def world_term(account):

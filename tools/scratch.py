@@ -9,9 +9,9 @@ from slices import Slices, flat
 
 TOP = os.path.dirname(os.path.dirname(os.path.abspath(__file__)))
 
-# The lowest crates are taken as they are. `trace_model` is, or its definitions alone; of the others the definitions alone.
+# The lowest crates are taken as they are, of the others the definitions alone: their laws are proved elsewhere.
 BASE = ('trace_base', 'wire_varint', 'page_geometry')
-ABOVE = ('model_laws', 'delivery_laws', 'chunk_plain', 'world_model')
+ABOVE = ('trace_model', 'model_laws', 'delivery_laws', 'chunk_plain', 'world_model')
 
 # The definitions of a crate that take no program code, where not all do.
 SPECS = {
@@ -32,15 +32,15 @@ pub fn holds()
 '''
 
 
-def make_scratch(scratch, laws=True):
-    """The scratch repository; the folder of its crate `computed`. Without its laws `trace_model` is definitions alone."""
-    names = (*BASE, 'trace_model', *ABOVE)
+def make_scratch(scratch):
+    """The scratch repository; the folder of its crate `computed`."""
+    names = (*BASE, *ABOVE)
     os.makedirs(os.path.join(scratch, 'crates'), exist_ok=True)
     for name in names:
         target = os.path.join(scratch, 'crates', name)
         shutil.rmtree(target, ignore_errors=True)
         shutil.copytree(os.path.join(TOP, 'crates', name), target, ignore=shutil.ignore_patterns('out'))
-        if name in ABOVE or (name == 'trace_model' and not laws):
+        if name in ABOVE:
             leave_definitions(target, name)
     with open(os.path.join(TOP, 'crates.txt')) as lines, open(os.path.join(scratch, 'crates.txt'), 'w') as out:
         for name, uses in (line.split(':', 1) for line in lines if line.split(':')[0] in names):

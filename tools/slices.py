@@ -18,7 +18,8 @@ USE = re.compile(r'^use (\S+?)(?:\.\{(.*)\}| as (\w+))$')
 WORD = re.compile(r"(?:(\w+)\.)?([^\W\d][\w']*)")
 NUMBERS = ('u8', 'u16', 'u32', 'u64', 'usize')
 # What a type of the code that hides its fields says: its values, and where these are defined.
-VALUES = {'Fields': ('List Shown', 'Rattle.field_tree.specs.Nodes', 'Shown')}
+VALUES = {'Fields': ('List Shown', 'Rattle.field_tree.specs.Nodes', 'Shown'),
+          'RawChunk': ('AskedChunk', 'Rattle.scenario_text.specs.RawChunks', 'AskedChunk')}
 PRELUDE = 'use Rattle.std.specs.Prelude.{ℕ, Bool, List, [], ◌∷◌, Option}\n'
 
 
@@ -134,6 +135,11 @@ class Types:
             return 'ℕ'
         if kind == 'bool':
             return 'Bool'
+        if re.fullmatch(r'\[u8; \d+\]', kind):
+            return '(List ℕ)'
+        option = re.fullmatch(r'Option<(.*)>', kind)
+        if option:
+            return f'(Option {self.term(module, crate, text, option[1])})'
         if kind in VALUES:
             term, path, name = VALUES[kind]
             module.imports[name] = Name(path, name)

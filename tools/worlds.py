@@ -67,9 +67,11 @@ no_limit = 2 ^ 64 - 1
 
 '''
 
-PROOF_HEAD = writer_scripts.PROOF_HEAD + 'use Rattle.trace_model.specs.Record.{content_of, record_of}\n'
+PROOF_HEAD = writer_scripts.PROOF_HEAD + '''use Rattle.trace_model.specs.Record.{content_of, record_of}
+use Rattle.trace_model.specs.Walks.{is_accepted, is_number, is_refused}
+'''
 
-UNFOLDING = writer_scripts.UNFOLDING[:-1] + ' content_of record_of\n'
+UNFOLDING = writer_scripts.UNFOLDING[:-1] + ' content_of record_of is_accepted is_number is_refused\n'
 
 
 def told_places(emitted, records, sequence):
@@ -106,9 +108,11 @@ def most_chunks(payload, lengths):
     return sum(1 + length // (payload - 7) for length in lengths)
 
 
-def is_enough(world):
-    """Chunks and bytes are enough, so that no packet can be absent."""
+def is_enough(world, first=False):
+    """Chunks and bytes are enough, so that no packet can be absent; or they would be if each writer had the packets of the first."""
     scenario, loads = world.scenario, list(loads_of(world))
+    if first:
+        loads = [(spec, loads[0][1]) for spec, _ in loads]
     for number, producer in enumerate(scenario.producers, 1):
         own = [(spec, lengths) for spec, lengths in loads if spec.producer == number]
         chunks = sum(most_chunks(producer.payload(), lengths) for _, lengths in own)

@@ -4,7 +4,6 @@ Chunks and patches come with ids, which are turned into positions where they com
 """
 
 from collections import deque
-from collections.abc import Callable
 from dataclasses import dataclass, field, replace
 
 from model.chunks import Chunk, Fragment, Patch, Unreadable, position_of, read_fragments
@@ -48,7 +47,6 @@ class Sequence:
     dropped: int = 0
     lost: int = 0
     cut: int = 0
-    accepts: Callable[[bytes], bool] | None = None      # which packets are delivered, where not all are
 
     def placed(self, named: Chunk | Patch) -> Chunk | Patch:
         """The same with the chunk's position in place of its id."""

@@ -101,7 +101,7 @@ def check(data: bytes) -> Answer:
     text, trace = divided(data)
     try:
         scenario = read_scenario(text)
-        refuse_lines(scenario, {'k': 'not under check'})
+        refuse_lines(scenario, {kind: 'not under check' for kind in ('k', 'raw')})
         if trace is None:
             raise Refused(text.count(b'\n') + 1, 'no trace')
         return Answer(0, verdict_on(scenario, read_trace(trace)))

@@ -60,6 +60,10 @@ class Chunk:
     def awaits(self) -> bool:
         return bool(self.flags & AWAITS)
 
+    def filled(self, size: int) -> 'Chunk':
+        """With a payload of this size: zeros stand behind what is given."""
+        return Chunk(self.chunk_id, self.count, self.flags, bytearray(self.payload.ljust(size, b'\0')), self.patches)
+
     def first_fragments(self, count: int) -> 'Chunk':
         """The part that a scrape takes, which says nothing of the last fragment."""
         return Chunk(self.chunk_id, count, self.flags & CONTINUES, bytearray(self.payload))

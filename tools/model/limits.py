@@ -10,6 +10,7 @@ PAGE_SIZES = range(4_096, 65_536 + 1, 4_096)
 CHUNK_COUNTS = (1, 2, 4, 7, 14)
 TRIES = range(1, 1_000_000 + 1)     # how often a writer asks that stalls and then drops
 CHUNK_IDS = range(2 ** 32)
+FLAGS = range(64)               # of a chunk
 REPETITIONS = range(1, 1_048_576 + 1)
 
 MOST_BUFFERS = 8

@@ -4,8 +4,11 @@ from collections.abc import Iterator
 from dataclasses import dataclass
 
 from model.buffers import Record, Sequence, TraceBuffer
-from model.limits import raised
+from model.limits import RESERVED_FIELDS, raised
+from model.wire import Fault, read_field
 from model.wire import record as trace_record
+
+REFUSED_FIELDS = set(RESERVED_FIELDS) - {42}
 
 Place = tuple[int, int]         # a chunk's id, and how many of its fragments come before
 
@@ -112,8 +115,21 @@ def chain_from(first: Piece, row: Iterator[Piece | Gap | Stop]) -> Chain:
             return Chain(pieces, CUT, last.behind)
 
 
+def is_accepted(packet: bytes) -> bool:
+    """The packet check: whole fields, none of which is the service's own."""
+    at = 0
+    while at < len(packet):
+        try:
+            field, _, _, at = read_field(packet, at, len(packet))
+        except Fault:
+            return False
+        if field in REFUSED_FIELDS:
+            return False
+    return True
+
+
 def delivers(chain: Chain) -> bool:
-    return chain.fate == WHOLE and not chain.is_headless() and not chain.awaits()
+    return chain.fate == WHOLE and not chain.is_headless() and not chain.awaits() and is_accepted(chain.packet())
 
 
 def pass_by(sequence: Sequence, chain: Chain) -> None:
@@ -142,8 +158,6 @@ def read_sequence(sequence: Sequence, limit: int) -> list[bytes]:
         chain = chain_from(first, row)
         if chain.fate == OPEN:
             return records
-        if sequence.accepts and delivers(chain) and not sequence.accepts(chain.packet()):
-            chain.fate = CUT
         if delivers(chain):
             if len(records) == limit:
                 return records

@@ -25,13 +25,15 @@ def play_of_service(service: Service, line: Line) -> list[bytes]:
         return service.read(line.of, line.limit)
     if line.kind == 'q':
         service.request_flush()
+    elif line.kind == 'raw':
+        service.commit(line.number, line.of, line.target, line.chunk)
     else:
         {'c': service.collect, 's': service.scrape, 'x': service.close}[line.kind](line.of)
     return []
 
 
 def is_of_service(line: Line) -> bool:
-    return line.kind in ('c', 's', 'x', 'r', 'q')
+    return line.kind in ('c', 's', 'x', 'r', 'q', 'raw')
 
 
 def play_lines(service: Service, lines: list[Line], records: list[bytes]) -> None:

@@ -1,7 +1,7 @@
 """Reads FORMATS, "Report": its lines."""
 
 from model.buffers import TraceBuffer
-from model.limits import raised
+from model.limits import MOST_NUMBER, raised
 from model.service import Service, sequence_of
 from model.writers import Writer
 
@@ -25,6 +25,12 @@ def counts_read(number: int, buffer: TraceBuffer) -> dict[str, int]:
     }
 
 
+def line_read(number: int, buffer: TraceBuffer) -> str:
+    """The line of a sequence of which nobody knows what was begun."""
+    counts = counts_read(number, buffer)
+    return sequence_line(number, min(MOST_NUMBER, sum(counts.values())), counts)
+
+
 def counts_of(writer: Writer, buffer: TraceBuffer) -> dict[str, int]:
     """What became of a writer's packets, each under its one cause."""
     counts = counts_read(sequence_of(writer.number), buffer)
@@ -38,8 +44,16 @@ def sequence_line(number: int, begun: int, counts: dict[str, int]) -> str:
     return f'sequence {number} begun {begun} {words}\n'
 
 
+def line_of(service: Service, writer: Writer) -> str:
+    """The line of a writer's sequence."""
+    if service.scenario.has_raw(writer.number):
+        return line_read(sequence_of(writer.number), service.buffer_of(writer))
+    return sequence_line(sequence_of(writer.number), writer.begun, counts_of(writer, service.buffer_of(writer)))
+
+
 def report_of(service: Service) -> bytes:
     lines = [buffer_line(number, buffer) for number, buffer in enumerate(service.buffers, 1)]
-    lines += [sequence_line(sequence_of(writer.number), writer.begun, counts_of(writer, service.buffer_of(writer))) for writer in service.writers]
+    lines += [line_of(service, writer) for writer in service.writers]
     lines += [f'flush {number} chunks {service.chunks_of(request)}\n' for number, request in enumerate(service.requests, 1)]
+    lines += [f'raw {line} {answer}\n' for line, answer in service.raws]
     return ''.join(lines).encode()

@@ -13,7 +13,7 @@ from model.scenario import Line, Refused, Scenario, read_scenario, refuse_lines
 from model.service import Service
 from model.writers import Writer
 
-NOT_PLAYED = {'x': 'not under run', 'k': 'not under run'}
+NOT_PLAYED = {kind: 'not under run' for kind in ('x', 'k', 'raw')}
 SERVICE = 0                 # the service's job; a writer's has its number
 
 

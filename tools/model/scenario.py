@@ -6,6 +6,7 @@ The reasons of a line are a list of tests in the order of the page; the first on
 from dataclasses import dataclass, field
 
 from model import limits
+from model.chunks import MOST_FRAGMENTS, Chunk, Patch
 from model.fields import BadField, Begin, End, first_reserved, is_too_deep, length_of, read_fields
 from model.forms import OF_PRODUCERS, OF_WRITERS, SET_UP, Form, form_of
 from model.geometry import payload_size, record_size
@@ -55,6 +56,8 @@ class Line:
     of: int = 0
     parts: tuple = ()
     limit: int = limits.MOST_NUMBER
+    target: int = 0         # the buffer of a chunk that is committed
+    chunk: Chunk | None = None
 
 
 @dataclass
@@ -76,6 +79,10 @@ class Scenario:
     closed: set[int] = field(default_factory=set)
     bytes: int = 0              # of all packets
 
+    def has_raw(self, writer: int) -> bool:
+        """A line commits a chunk in the writer's name."""
+        return any(line.kind == 'raw' and line.of == writer for line in self.lines)
+
     def packet_of(self, form: Form) -> Packet | None:
         return self.packets.get(form.numbers[0])
 
@@ -83,7 +90,7 @@ class Scenario:
         """The producer that a line names, or whose writer it names."""
         if form.kind in OF_PRODUCERS:
             return form.numbers[0]
-        return self.writers[form.numbers[0] - 1].producer if form.kind in OF_WRITERS else None
+        return self.writers[form.numbers[0] - 1].producer if form.kind in (*OF_WRITERS, 'raw') else None
 
 
 def is_out_of_range(_: Scenario, form: Form) -> bool:
@@ -98,7 +105,16 @@ def is_out_of_range(_: Scenario, form: Form) -> bool:
         return True
     if form.kind == 'r' and len(numbers) > 1 and numbers[1] == 0:
         return True
+    if form.kind == 'raw' and is_out_of_header(form):
+        return True
     return any(number > limits.MOST_NUMBER for number in (numbers[:1] if form.kind == 'n' else numbers))
+
+
+def is_out_of_header(form: Form) -> bool:
+    """A number of a chunk's header, or of a patch, is too large."""
+    _, chunk_id, count, flags, _ = form.numbers
+    ids = [chunk_id, *(form.patch[:2] if form.patch else ())]
+    return any(number not in limits.CHUNK_IDS for number in ids) or count > MOST_FRAGMENTS or flags not in limits.FLAGS
 
 
 def is_late(scenario: Scenario, form: Form) -> bool:
@@ -116,12 +132,12 @@ def lacks_producer(scenario: Scenario, form: Form) -> bool:
 
 
 def lacks_buffer(scenario: Scenario, form: Form) -> bool:
-    number = form.numbers[1] if form.kind == 'writer' else form.numbers[0] if form.kind in ('r', 'k') else 1
-    return form.kind in ('writer', 'r', 'k') and not 1 <= number <= len(scenario.buffers)
+    place = {'writer': 1, 'r': 0, 'k': 0, 'raw': 4}.get(form.kind)
+    return place is not None and not 1 <= form.numbers[place] <= len(scenario.buffers)
 
 
 def lacks_writer(scenario: Scenario, form: Form) -> bool:
-    return form.kind in OF_WRITERS and not 1 <= form.numbers[0] <= len(scenario.writers)
+    return form.kind in (*OF_WRITERS, 'raw') and not 1 <= form.numbers[0] <= len(scenario.writers)
 
 
 def has_larger_chunks(scenario: Scenario, form: Form) -> bool:
@@ -133,6 +149,10 @@ def has_larger_chunks(scenario: Scenario, form: Form) -> bool:
 
 def has_closed_producer(scenario: Scenario, form: Form) -> bool:
     return scenario.producer_of(form) in scenario.closed
+
+
+def has_long_payload(scenario: Scenario, form: Form) -> bool:
+    return form.kind == 'raw' and len(form.payload) > scenario.producers[scenario.producer_of(form) - 1].payload()
 
 
 def meets_packet(scenario: Scenario, form: Form) -> bool:
@@ -154,7 +174,7 @@ def leaves_nesting(scenario: Scenario, form: Form) -> bool:
 REASONS = (
     (is_out_of_range, 'number out of range'), (is_late, 'late set-up'), (is_too_many, 'too many'),
     (lacks_producer, 'no such producer'), (lacks_buffer, 'no such buffer'), (lacks_writer, 'no such writer'),
-    (has_larger_chunks, 'chunk larger than buffer'), (has_closed_producer, 'producer closed'),
+    (has_larger_chunks, 'chunk larger than buffer'), (has_closed_producer, 'producer closed'), (has_long_payload, 'raw too long'),
     (meets_packet, 'packet begun'), (lacks_packet, 'no packet'), (lacks_nesting, 'no nesting'), (leaves_nesting, 'nesting left'),
 )
 
@@ -196,11 +216,18 @@ def set_up(scenario: Scenario, form: Form) -> None:
         scenario.writers.append(Writer(*numbers, form.policy, form.tries, form.first_id or 0))
 
 
+def chunk_asked(form: Form) -> Chunk:
+    """The chunk of a line `raw`, with what its payload begins with."""
+    _, chunk_id, count, flags, _ = form.numbers
+    return Chunk(chunk_id, count, flags, bytearray(form.payload), [Patch(*form.patch)] if form.patch else [])
+
+
 def add_line(scenario: Scenario, form: Form, line: int, parts: tuple) -> None:
     """What a played line adds, and how it changes the packet of its writer."""
     of = form.numbers[0] if form.numbers else 0
     limit = form.numbers[1] if form.kind == 'r' and len(form.numbers) > 1 else limits.MOST_NUMBER
-    scenario.lines.append(Line(line, form.kind, of, parts, limit))
+    target, chunk = (form.numbers[4], chunk_asked(form)) if form.kind == 'raw' else (0, None)
+    scenario.lines.append(Line(line, form.kind, of, parts, limit, target, chunk))
     length = sum(map(length_of, parts))
     scenario.bytes += length
     if form.kind == 'b':

@@ -2,8 +2,8 @@
 
 from dataclasses import dataclass, field
 
-from model.buffers import TraceBuffer
-from model.chunks import Claims
+from model.buffers import BAD_CHUNK, TraceBuffer
+from model.chunks import Chunk, Claims, Unreadable, read_fragments
 from model.geometry import record_size
 from model.limits import MOST_NUMBER
 from model.reading import read_buffer
@@ -15,6 +15,15 @@ LEAST_OF_PART = 2           # fragments of a chunk of which a scrape takes a par
 
 def sequence_of(writer: int) -> int:
     return writer + 1
+
+
+def first_unreadable(chunk: Chunk) -> int:
+    """The number of the first fragment that can't be read."""
+    try:
+        read_fragments(chunk.payload, chunk.count)
+    except Unreadable as at:
+        return at.args[0]
+    raise AssertionError('all fragments are there')
 
 
 @dataclass
@@ -34,6 +43,7 @@ class Service:
         self.taken = [0] * len(self.writers)        # chunks of each writer
         self.closed: set[int] = set()               # producers
         self.requests: list[Request] = []
+        self.raws: list[tuple[int, str]] = []       # the numbers of lines `raw`, and their answers
         self.given: dict[int, tuple[int, int]] = {}     # of a writer of `run` its last answer: the request's number, and its chunks
 
     def make_writer(self, number: int) -> Writer:
@@ -78,6 +88,22 @@ class Service:
 
     def read(self, buffer: int, limit: int) -> list[bytes]:
         return read_buffer(self.buffers[buffer - 1], limit)
+
+    def commit(self, number: int, of: int, target: int, asked: Chunk) -> None:
+        """The line with this number commits a chunk in a writer's name, and is answered."""
+        writer = self.writers[of - 1]
+        self.raws.append((number, self.answer_to(writer, target, asked)))
+
+    def answer_to(self, writer: Writer, target: int, asked: Chunk) -> str:
+        """Plays a commit; what becomes of its chunk. Its patches are put in all the same, but in the wrong buffer."""
+        if writer.spec.buffer != target:
+            return f'wrong target {writer.spec.buffer}'
+        chunk = asked.filled(self.scenario.producers[writer.spec.producer - 1].payload())
+        buffer, sequence = self.buffer_of(writer), sequence_of(writer.number)
+        outcome = buffer.arrive(sequence, chunk)
+        for patch in chunk.patches:
+            buffer.patch(sequence, patch)
+        return f'{outcome} {first_unreadable(chunk)}' if outcome == BAD_CHUNK else outcome
 
     # Flush requests
 

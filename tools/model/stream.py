@@ -7,11 +7,10 @@ from model.buffers import BAD_CHUNK, DUPLICATE, TOO_FAR
 from model.check import divided
 from model.chunks import Chunk, Patch
 from model.config import read_config
-from model.limits import MOST_NUMBER, RESERVED_FIELDS
-from model.report import buffer_line, counts_read, sequence_line
+from model.limits import MOST_NUMBER
+from model.report import buffer_line, line_read
 from model.scenario import Refused, Scenario
 from model.service import Service, sequence_of
-from model.wire import Fault, read_field
 
 COMMIT, READ, CLOSE = 1, 2, 3           # kinds of frames
 LENGTHS = range(1, 70_000 + 1)
@@ -19,7 +18,6 @@ LENGTH = 4                              # bytes of a frame's length
 MOST_PATCHES = 16
 FRAGMENT_BITS = 10                      # of a header's last number; the flags are above
 REFUSALS = (BAD_CHUNK, DUPLICATE, TOO_FAR)
-REFUSED_FIELDS = set(RESERVED_FIELDS) - {42}
 
 
 class BadStream(Exception):
@@ -110,19 +108,6 @@ def read_frames(stream: bytes, session: Scenario) -> list[Frame]:
     return frames
 
 
-def is_packet(data: bytes) -> bool:
-    """Whole fields, none of which is the service's own."""
-    at = 0
-    while at < len(data):
-        try:
-            field, _, _, at = read_field(data, at, len(data))
-        except Fault:
-            return False
-        if field in REFUSED_FIELDS:
-            return False
-    return True
-
-
 def is_refused(service: Service, frame: Frame) -> bool:
     """Plays a commit; whether its chunk is refused."""
     if service.writers[frame.source - 1].spec.buffer != frame.buffer:
@@ -136,9 +121,6 @@ def is_refused(service: Service, frame: Frame) -> bool:
 
 def play(session: Scenario, frames: list[Frame]) -> Answer:
     service, records = Service(session), []
-    for buffer in service.buffers:
-        for sequence in buffer.sequences.values():
-            sequence.accepts = is_packet
     commits, refusals = 0, 0
     for frame in frames:
         if frame.kind == COMMIT:
@@ -155,9 +137,7 @@ def play(session: Scenario, frames: list[Frame]) -> Answer:
 def report_of(service: Service) -> bytes:
     """The lines of the buffers and of the sequences, by what reads and losses tell."""
     lines = [buffer_line(number, buffer) for number, buffer in enumerate(service.buffers, 1)]
-    for writer in service.writers:
-        counts = counts_read(sequence_of(writer.number), service.buffer_of(writer))
-        lines.append(sequence_line(sequence_of(writer.number), min(MOST_NUMBER, sum(counts.values())), counts))
+    lines += [line_read(sequence_of(writer.number), service.buffer_of(writer)) for writer in service.writers]
     return ''.join(lines).encode()
 
 
