@@ -1,0 +1,17 @@
+pub mod BuiltLemmas
+pub mod CallLemmas
+pub mod CloseLemmas
+pub mod CountLemmas
+pub mod FeedLemmas
+pub mod FinishLemmas
+pub mod FrontLemmas
+pub mod LimitLemmas
+pub mod MakingLemmas
+pub mod PlayLemmas
+pub mod ReadLemmas
+pub mod ReadingLemmas
+pub mod ResultLemmas
+pub mod SetUpLemmas
+pub mod StreamLemmas
+pub mod TakeLemmas
+pub mod WholeLemmas

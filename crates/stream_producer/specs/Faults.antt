@@ -1,0 +1,28 @@
+-- The faults of a stream.
+use Rattle.std.specs.Prelude.{◌≡◌, ℕ, ◌≤◌, Result, Ok, Err}
+use Rattle.byte_io.specs.Bytes.{Faulted}
+use Rattle.stream_frames.specs.declared.check.FrameFault.{FrameFault}
+use Rattle.stream_frames.specs.declared.check.FrameFault.TheVariants as frames
+use Rattle.stream_producer.specs.declared.fault.StreamFault.{StreamFault}
+use Rattle.stream_producer.specs.declared.fault.StreamFault.TheVariants.{WriteFault, BadFrame, NoEnd}
+
+-- the fault of a stream's frames
+abbrev pub fault_of : FrameFault → StreamFault
+fault_of (frames.BadFrame offset) = BadFrame offset
+fault_of (frames.NoEnd offset) = NoEnd offset
+
+-- what its frames are
+abbrev pub faults_of : Result (Unit {0}) FrameFault → Result (Unit {0}) StreamFault
+faults_of (Ok done) = Ok done
+faults_of (Err fault) = Err (fault_of fault)
+
+-- a write fault comes only where the count of faults rose, and nothing else raises it
+abbrev pub CountsFault : ℕ → ℕ → StreamFault → Type 0
+CountsFault old new WriteFault = (old ≤ new) × Faulted old new
+CountsFault old new (BadFrame offset) = new ≡ old
+CountsFault old new (NoEnd offset) = new ≡ old
+
+-- the same of a call
+abbrev pub CountsWrites : {T : Type 0} → ℕ → ℕ → Result T StreamFault → Type 0
+CountsWrites old new (Ok done) = new ≡ old
+CountsWrites old new (Err fault) = CountsFault old new fault

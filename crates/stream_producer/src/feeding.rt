@@ -1,0 +1,95 @@
+//! A piece of a stream that is played.
+ghost use Rattle.std.specs.Prelude.{ℕ, ◌+◌, ◌^◌, ◌<◌, List, ◌++◌, length, IfOk, OnOk, IfErr};
+ghost use Rattle.config_text.specs.Configs.{ConfigOf};
+ghost use Rattle.byte_io.specs.Bytes.{Intake};
+ghost use Rattle.stream_frames.specs.Framing.{fed, by_front, front_of};
+ghost use Rattle.stream_frames.specs.Values.{limits_of, feeding_of};
+ghost use Rattle.stream_producer.specs.Faults.{CountsWrites};
+
+use crate::fault::StreamFault;
+use crate::producer::StreamCore;
+use byte_io::traits::Sink;
+use chunk_plain::Words;
+use stream_frames::Front;
+
+impl<W: Words> StreamCore<W, W::Service> {
+    ghost use Rattle.stream_producer.specs.Feeding.{IsFeeding, HasWholeFrame, Feeds, FeedsSome, Stops, HasTaken, IsTraceOf};
+
+    /// Plays the frame that stands whole in the reader, if there is one.
+    fn play_front<O: Sink>(&mut self, out: &mut O) -> Result<(), StreamFault>
+        requires feeding { HasWholeFrame W.means self.old }
+        requires may { O.may_write out.old }
+        ensures feeds { OnOk result (Feeds W.means
+            (by_front (feeding_of self.old.reader).at (feeding_of self.old.reader).have
+            (front_of (limits_of self.old.reader) (feeding_of self.old.reader).have))
+            self.old self.new (O.taken out.old) (O.taken out.new)) }
+        ensures stops { IfErr result (Stops W.means
+            (by_front (feeding_of self.old.reader).at (feeding_of self.old.reader).have
+            (front_of (limits_of self.old.reader) (feeding_of self.old.reader).have))
+            self.old self.new (O.taken out.old) (O.taken out.new)) }
+        ensures count { CountsWrites (O.faults out.old) (O.faults out.new) result }
+        ensures goes_on { OnOk result (O.may_write out.new) }
+    {
+        match self.reader.front() {
+            Front::Short => Ok(()),
+            Front::Bad => Err(StreamFault::BadFrame {
+                offset: self.reader.offset(),
+            }),
+            Front::Whole { frame, size: _ } => {
+                let closes = frame.closes();
+                self.player.play(self.reader.limits(), frame, out)?;
+                self.reader.advance(closes);
+                Ok(())
+            }
+        }
+    }
+
+    /// Takes bytes of the piece, at most up to a frame's end, and plays that frame. Says how many.
+    fn feed_some<O: Sink>(&mut self, piece: &[u8], out: &mut O) -> Result<usize, StreamFault>
+        requires feeding { IsFeeding W.means self.old }
+        requires length { (feeding_of self.old.reader).at + length (feeding_of self.old.reader).have + length piece.now < 2 ^ 64 }
+        requires some { 0 < length piece.now }
+        requires may { O.may_write out.old }
+        ensures feeds { IfOk result (λ count. FeedsSome W.means piece.now count self.old self.new (O.taken out.old) (O.taken out.new)) }
+        ensures stops { IfErr result (Stops W.means (fed (limits_of self.old.reader) (feeding_of self.old.reader) piece.now)
+            self.old self.new (O.taken out.old) (O.taken out.new)) }
+        ensures count { CountsWrites (O.faults out.old) (O.faults out.new) result }
+        ensures goes_on { OnOk result (O.may_write out.new) }
+    {
+        if self.reader.is_closed() {
+            let offset = self.reader.offset();
+            return Err(StreamFault::BadFrame { offset });
+        }
+        let count = self.reader.take(piece);
+        self.play_front(out)?;
+        Ok(count)
+    }
+
+    /// Plays the next piece of the stream: each frame that ends in it. Behind an Err there is no call.
+    pub fn feed<O: Sink>(&mut self, piece: &[u8], out: &mut O) -> Result<(), StreamFault>
+        requires feeding { IsFeeding W.means self.old }
+        requires length { (feeding_of self.old.reader).at + length (feeding_of self.old.reader).have + length piece.now < 2 ^ 64 }
+        requires may { O.may_write out.old }
+
+        // What comes of the stream with this piece, and what was played of it.
+        ensures feeds { OnOk result (Feeds W.means (fed (limits_of self.old.reader) (feeding_of self.old.reader) piece.now)
+            self.old self.new (O.taken out.old) (O.taken out.new)) }
+        ensures stops { IfErr result (Stops W.means (fed (limits_of self.old.reader) (feeding_of self.old.reader) piece.now)
+            self.old self.new (O.taken out.old) (O.taken out.new)) }
+
+        // Whatever pieces came before, this is the stream of them all with the piece.
+        ensures stream { (config : ConfigOf) (stream : List ℕ) → HasTaken W.means config stream self.old
+            → OnOk result (HasTaken W.means config (stream ++ piece.now) self.new) }
+        ensures trace { (config : ConfigOf) (stream : List ℕ) (start : Intake) → HasTaken W.means config stream self.old
+            → IsTraceOf W.means config stream self.old start (O.taken out.old)
+            → OnOk result (IsTraceOf W.means config (stream ++ piece.now) self.new start (O.taken out.new)) }
+        ensures count { CountsWrites (O.faults out.old) (O.faults out.new) result }
+        ensures goes_on { OnOk result (O.may_write out.new) }
+    {
+        let mut at = 0;
+        while at < piece.len() {
+            at += self.feed_some(&piece[at..], out)?;
+        }
+        Ok(())
+    }
+}
