@@ -10,7 +10,7 @@ use Rattle.clap.specs.Words.{fault_of, subcommand_of, subcommand_name_of, subcom
 use Rattle.clap.specs.declared.ArgMatches.{ArgMatches}
 use Rattle.clap.proofs.WalkLemmas.{first_value-rows}
 use Rattle.command_words.specs.declared.command.Command.{Command}
-use Rattle.command_words.specs.declared.command.Command.TheVariants.{Replay, Run, Read, Check, Gen, Clone, Tune}
+use Rattle.command_words.specs.declared.command.Command.TheVariants.{Replay, Run, Read, Check, Gen, Stream, Clone, Tune}
 use Rattle.command_words.specs.Commands.{Spells, IsWithinLimits, words_of}
 use Rattle.command_words.specs.Found.{HasNumbers, HasTurns}
 use Rattle.command_words.specs.Program.{program_app, is_plain}
@@ -51,7 +51,8 @@ spelled_by Replay within = record { rows = []; found = lone_found.0; passes = lo
 spelled_by Run within = record { rows = []; found = lone_found.1; passes = lone_passes.1; plain = refl }
 spelled_by Read within = record { rows = []; found = lone_found.2; passes = lone_passes.2; plain = refl }
 spelled_by Check within = record { rows = []; found = lone_found.3; passes = lone_passes.3; plain = refl }
-spelled_by Clone within = record { rows = []; found = lone_found.4; passes = lone_passes.4; plain = refl }
+spelled_by Stream within = record { rows = []; found = lone_found.4; passes = lone_passes.4; plain = refl }
+spelled_by Clone within = record { rows = []; found = lone_found.5; passes = lone_passes.5; plain = refl }
 spelled_by (Gen number writers packets) (small, some_writer, few_writers, some_packet, few_packets) =
     let few : writers < 2 ^ 64 = omega arith in
     let many : packets < 2 ^ 64 = omega arith in

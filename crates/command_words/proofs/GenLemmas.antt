@@ -7,7 +7,7 @@ use Rattle.clap.specs.Walk.{Rule, Row, Text, Held, Walk, idle, finished, settled
 use Rattle.clap.specs.Simple.{Shape, built, names_of}
 use Rattle.clap.specs.Kinds.{Kinds, or_else}
 use Rattle.clap.specs.Faults.{level_fault, walk_fault, turn_fault, positional_fault, stray_fault, settle_fault, defaults_fault, check_fault}
-use Rattle.clap.specs.Words.{fault_of, subcommand_of, first_of, is_simple_and_free}
+use Rattle.clap.specs.Words.{fault_of, subcommand_of, first_of, is_simple, is_simple_and_free}
 use Rattle.clap.proofs.OnLiterals.{clap_on_literals}
 use Rattle.command_words.specs.Program.{program_app, gen_app}
 
@@ -131,22 +131,28 @@ gen_values number writers packets = (refl, refl, refl)
 -- a command without numbers is taken by its name alone
 pub lone_passes : (fault_of program_app (codes "replay" ∷ []) ≡ []) × (fault_of program_app (codes "run" ∷ []) ≡ [])
     × (fault_of program_app (codes "read" ∷ []) ≡ []) × (fault_of program_app (codes "check" ∷ []) ≡ [])
-    × (fault_of program_app (codes "clone" ∷ []) ≡ [])
+    × (fault_of program_app (codes "stream" ∷ []) ≡ []) × (fault_of program_app (codes "clone" ∷ []) ≡ [])
 unfolding clap_on_literals
-lone_passes = (refl, refl, refl, refl, refl)
+lone_passes = (refl, refl, refl, refl, refl, refl)
 
-pub simple_program : is_simple_and_free program_app ≡ true
+-- the program is simple: `clap` says all that it finds in the words of such a one, and which faults
+pub simple_program : is_simple program_app ≡ true
 unfolding clap_on_literals
 simple_program = refl
+
+pub simple_and_free_program : is_simple_and_free program_app ≡ true
+unfolding clap_on_literals
+simple_and_free_program = refl
 
 -- and found by it
 pub lone_found : (subcommand_of program_app (codes "replay" ∷ []) ≡ Some (codes "replay", []))
     × (subcommand_of program_app (codes "run" ∷ []) ≡ Some (codes "run", []))
     × (subcommand_of program_app (codes "read" ∷ []) ≡ Some (codes "read", []))
     × (subcommand_of program_app (codes "check" ∷ []) ≡ Some (codes "check", []))
+    × (subcommand_of program_app (codes "stream" ∷ []) ≡ Some (codes "stream", []))
     × (subcommand_of program_app (codes "clone" ∷ []) ≡ Some (codes "clone", []))
 unfolding clap_on_literals
-lone_found = (refl, refl, refl, refl, refl)
+lone_found = (refl, refl, refl, refl, refl, refl)
 
 -- what `clap` finds behind `gen`
 abbrev pub gen_rows : Text → Text → Text → List Row

@@ -3,7 +3,7 @@ use Rattle.std.proofs.Common.{◌≡◌, ℕ, ◌==◌, false, List, [], length,
 use Rattle.std.proofs.lemmas.Bool.{eq-eqb, true≢false}
 use Rattle.std.proofs.lemmas.Fmt.{decimal_injective}
 use Rattle.command_words.specs.declared.command.Command.{Command}
-use Rattle.command_words.specs.declared.command.Command.TheVariants.{Replay, Run, Read, Check, Gen, Clone, Tune}
+use Rattle.command_words.specs.declared.command.Command.TheVariants.{Replay, Run, Read, Check, Gen, Stream, Clone, Tune}
 use Rattle.command_words.specs.Commands.{Spells, WordsSpellOneCommand}
 use Rattle.command_words.proofs.SpellLemmas.{other_length}
 
@@ -52,6 +52,21 @@ once words (Tune u t) Run (a, _) (b, _) = absurd (other_length _ _ refl (sym a �
 once words (Tune u t) Read (a, _) (b, _) = absurd (other_length _ _ refl (sym a ∙ b))
 once words (Tune u t) Check (a, _) (b, _) = absurd (other_length _ _ refl (sym a ∙ b))
 once words (Tune u t) (Gen n w p) (a, _) (b, _) = absurd (other_length _ _ refl (sym a ∙ b))
+once words Stream Stream (a, _) (b, _) = refl
+once words Stream Replay (a, _) (b, _) = absurd (seconds _ _ refl (sym a ∙ b))
+once words Replay Stream (a, _) (b, _) = absurd (seconds _ _ refl (sym a ∙ b))
+once words Stream Run (a, _) (b, _) = absurd (heads _ _ refl (sym a ∙ b))
+once words Run Stream (a, _) (b, _) = absurd (heads _ _ refl (sym a ∙ b))
+once words Stream Read (a, _) (b, _) = absurd (heads _ _ refl (sym a ∙ b))
+once words Read Stream (a, _) (b, _) = absurd (heads _ _ refl (sym a ∙ b))
+once words Stream Check (a, _) (b, _) = absurd (heads _ _ refl (sym a ∙ b))
+once words Check Stream (a, _) (b, _) = absurd (heads _ _ refl (sym a ∙ b))
+once words Stream (Gen n w p) (a, _) (b, _) = absurd (other_length _ _ refl (sym a ∙ b))
+once words (Gen n w p) Stream (a, _) (b, _) = absurd (other_length _ _ refl (sym a ∙ b))
+once words Stream Clone (a, _) (b, _) = absurd (heads _ _ refl (sym a ∙ b))
+once words Clone Stream (a, _) (b, _) = absurd (heads _ _ refl (sym a ∙ b))
+once words Stream (Tune u t) (a, _) (b, _) = absurd (other_length _ _ refl (sym a ∙ b))
+once words (Tune u t) Stream (a, _) (b, _) = absurd (other_length _ _ refl (sym a ∙ b))
 once words Clone Clone (a, _) (b, _) = refl
 once words Clone Replay (a, _) (b, _) = absurd (heads _ _ refl (sym a ∙ b))
 once words Replay Clone (a, _) (b, _) = absurd (heads _ _ refl (sym a ∙ b))

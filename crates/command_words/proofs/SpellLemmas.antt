@@ -9,7 +9,7 @@ use Rattle.trace_base.specs.declared.limits.TheConstants.{MAX_GENERATED_WRITERS,
 use Rattle.layout_tuner.specs.declared.table.TheConstants.{MAX_USERS}
 use Rattle.tune_run.specs.declared.turns.TheConstants.{MAX_TURNS}
 use Rattle.command_words.specs.declared.command.Command.{Command}
-use Rattle.command_words.specs.declared.command.Command.TheVariants.{Replay, Run, Read, Check, Gen, Clone, Tune}
+use Rattle.command_words.specs.declared.command.Command.TheVariants.{Replay, Run, Read, Check, Gen, Stream, Clone, Tune}
 use Rattle.command_words.specs.Commands.{Spells}
 
 -- these three texts are the numbers of a workload
@@ -36,6 +36,7 @@ four_words name number writers packets Replay (words, within) = absurd (other_le
 four_words name number writers packets Run (words, within) = absurd (other_length _ _ refl words)
 four_words name number writers packets Read (words, within) = absurd (other_length _ _ refl words)
 four_words name number writers packets Check (words, within) = absurd (other_length _ _ refl words)
+four_words name number writers packets Stream (words, within) = absurd (other_length _ _ refl words)
 four_words name number writers packets Clone (words, within) = absurd (other_length _ _ refl words)
 four_words name number writers packets (Tune users turns) (words, within) = absurd (other_length _ _ refl words)
 four_words name number writers packets (Gen first second third) (words, (small, some_writer, few_writers, some_packet, few_packets)) = (
@@ -72,6 +73,7 @@ three_words name users turns Replay (words, within) = absurd (other_length _ _ r
 three_words name users turns Run (words, within) = absurd (other_length _ _ refl words)
 three_words name users turns Read (words, within) = absurd (other_length _ _ refl words)
 three_words name users turns Check (words, within) = absurd (other_length _ _ refl words)
+three_words name users turns Stream (words, within) = absurd (other_length _ _ refl words)
 three_words name users turns Clone (words, within) = absurd (other_length _ _ refl words)
 three_words name users turns (Gen first second third) (words, within) = absurd (other_length _ _ refl words)
 three_words name users turns (Tune first second) (words, (some_user, few_users, some_turn, few_turns)) = (

@@ -11,7 +11,7 @@ use Rattle.command_words.proofs.GenLemmas.{IsValue, value_step, value_turn, end_
 
 -- `tune` as it is built in the program
 abbrev tune_shape : Shape
-tune_shape = unwrap_or (slice_get (built program_app).subs 6) tune_app.top
+tune_shape = unwrap_or (slice_get (built program_app).subs 7) tune_app.top
 
 abbrev rules : List Rule
 rules = tune_shape.rules

@@ -4,7 +4,7 @@ use Rattle.trace_base.specs.declared.limits.TheConstants.{MAX_GENERATED_WRITERS,
 use Rattle.layout_tuner.specs.declared.table.TheConstants.{MAX_USERS}
 use Rattle.tune_run.specs.declared.turns.TheConstants.{MAX_TURNS}
 use Rattle.command_words.specs.declared.command.Command.{Command}
-use Rattle.command_words.specs.declared.command.Command.TheVariants.{Replay, Run, Read, Check, Gen, Clone, Tune}
+use Rattle.command_words.specs.declared.command.Command.TheVariants.{Replay, Run, Read, Check, Gen, Stream, Clone, Tune}
 
 -- the words of a command: its name, and its numbers in decimal, without a sign and without a leading zero
 abbrev pub words_of : Command → List (List ℕ)
@@ -13,6 +13,7 @@ words_of Run = codes "run" ∷ []
 words_of Read = codes "read" ∷ []
 words_of Check = codes "check" ∷ []
 words_of (Gen number writers packets) = codes "gen" ∷ decimal number ∷ decimal writers ∷ decimal packets ∷ []
+words_of Stream = codes "stream" ∷ []
 words_of Clone = codes "clone" ∷ []
 words_of (Tune users turns) = codes "tune" ∷ decimal users ∷ decimal turns ∷ []
 

@@ -35,9 +35,9 @@ bare_program = record (new_app (codes "tracesmb")) {
 -- the whole program
 abbrev pub program_app : App
 program_app =
-    with_subcommand (with_subcommand (with_subcommand (with_subcommand (with_subcommand (with_subcommand (with_subcommand bare_program
-    (plain_app (codes "replay")).top) (plain_app (codes "run")).top) (plain_app (codes "read")).top) (plain_app (codes "check")).top) gen_app.top)
-    (plain_app (codes "clone")).top) tune_app.top
+    with_subcommand (with_subcommand (with_subcommand (with_subcommand (with_subcommand (with_subcommand (with_subcommand (with_subcommand
+    bare_program (plain_app (codes "replay")).top) (plain_app (codes "run")).top) (plain_app (codes "read")).top)
+    (plain_app (codes "check")).top) gen_app.top) (plain_app (codes "stream")).top) (plain_app (codes "clone")).top) tune_app.top
 
 -- the word isn't empty, doesn't begin with a hyphen, and isn't `help`: `clap` gives such words meanings of its own
 abbrev pub is_plain : Text → Bool

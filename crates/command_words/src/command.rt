@@ -17,6 +17,8 @@ pub enum Command {
         writers: u8,
         packets: u32,
     },
+    /// Plays a stream of commits on the buffers that a configuration text asks for, and writes its trace.
+    Stream,
     /// Plays a scenario, and writes the clones that its lines make of buffers.
     Clone,
     /// Has so many users, from 1 to 8, partition pages anew beside a collector, in so many turns each, from 1 to 10,000.

@@ -64,6 +64,7 @@ pub fn program<'a>(alloc: Global) -> Result<Command<'a>, AllocError>
         .subcommand(plain(alloc, "read"))?
         .subcommand(plain(alloc, "check"))?
         .subcommand(generator)?
+        .subcommand(plain(alloc, "stream"))?
         .subcommand(plain(alloc, "clone"))?
         .subcommand(tuner)
 }

@@ -134,6 +134,7 @@ fn lone_command(name: &str) -> Option<Command>
         "run" => Some(Command::Run),
         "read" => Some(Command::Read),
         "check" => Some(Command::Check),
+        "stream" => Some(Command::Stream),
         "clone" => Some(Command::Clone),
         _ => None,
     }

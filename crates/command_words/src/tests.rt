@@ -10,7 +10,7 @@ struct Row {
     command: Option<Command>,
 }
 
-static ROWS: [Row; 36] = [
+static ROWS: [Row; 38] = [
     Row {
         line: "replay",
         command: Some(Command::Replay),
@@ -89,6 +89,14 @@ static ROWS: [Row; 36] = [
     },
     Row {
         line: "gen 0x1 1 1",
+        command: None,
+    },
+    Row {
+        line: "stream",
+        command: Some(Command::Stream),
+    },
+    Row {
+        line: "stream 1",
         command: None,
     },
     Row {

@@ -11,5 +11,6 @@ returns c =
     let fourth = c.in_ok-subcommand-4.ensures.shape c.plain-4.ensures.local ∙ ap₂ with_subcommand third (ap (λ (a : App). a.top) c.plain-4.ensures.app) in
     let fifth = c.in_ok-subcommand-5.ensures.shape c.in_ok-generator.ensures.local ∙ ap₂ with_subcommand fourth (ap (λ (a : App). a.top) c.in_ok-generator.ensures.app) in
     let sixth = c.in_ok-subcommand-6.ensures.shape c.plain-5.ensures.local ∙ ap₂ with_subcommand fifth (ap (λ (a : App). a.top) c.plain-5.ensures.app) in
-    IfOk-weaker c.subcommand-7.result _ _ (λ command added. added.shape c.in_ok-tuner.ensures.local
-    ∙ ap₂ with_subcommand sixth (ap (λ (a : App). a.top) c.in_ok-tuner.ensures.app)) c.subcommand-7.ensures
+    let seventh = c.in_ok-subcommand-7.ensures.shape c.plain-6.ensures.local ∙ ap₂ with_subcommand sixth (ap (λ (a : App). a.top) c.plain-6.ensures.app) in
+    IfOk-weaker c.subcommand-8.result _ _ (λ command added. added.shape c.in_ok-tuner.ensures.local
+    ∙ ap₂ with_subcommand seventh (ap (λ (a : App). a.top) c.in_ok-tuner.ensures.app)) c.subcommand-8.ensures
