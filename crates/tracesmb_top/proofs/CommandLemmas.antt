@@ -4,13 +4,14 @@ use Rattle.byte_io.specs.Bytes.{Intake, Faulted, NoFault}
 use Rattle.trace_base.specs.declared.limits.TheConstants.{MAX_INPUT}
 use Rattle.trace_file.proofs.WholeLemmas.{traces_read_once}
 use Rattle.command_words.specs.declared.command.Command.{Command}
-use Rattle.command_words.specs.declared.command.Command.TheVariants.{Replay, Run, Read, Check, Gen, Clone, Tune}
+use Rattle.command_words.specs.declared.command.Command.TheVariants.{Replay, Run, Read, Check, Gen, Stream, Clone, Tune}
 use Rattle.scenario_text.specs.Scenario.{Parts}
 use Rattle.tracesmb_top.specs.Words.{Ask, ReadsInput, LeavesReport, PlaysByLine}
 use Rattle.tracesmb_top.specs.Commands.{IsGiven, Refuses, Writes, Wrote, WrotePart, HasStalled}
 use Rattle.tracesmb_top.specs.Refusals.{refusal_of, IsFor}
 use Rattle.tracesmb_top.specs.Answers.{Says, SaysBehind}
 use Rattle.tracesmb_top.proofs.CheckLemmas.{checked_unrefused, none_refused}
+use Rattle.tracesmb_top.proofs.StreamLemmas.{streamed_unrefused}
 use Rattle.tracesmb_top.proofs.WordLemmas.{same_command}
 
 -- ---- what is done isn't refused
@@ -29,6 +30,7 @@ bytes_unrefused (Tune users turns) given bytes line writes refused = refused
 bytes_unrefused Replay given bytes line writes refused = writes
 bytes_unrefused Run given bytes line writes refused = writes
 bytes_unrefused Clone given bytes line writes refused = writes
+bytes_unrefused Stream given bytes line writes refused = writes
 
 -- A command that did something with what it was given: all that it does, a part of it, or all up to a stall.
 pub data IsTried (command : Command) (given : List ℕ) (old new : Intake) : Type 0 where
@@ -47,6 +49,11 @@ tried_unrefused Run given line old new (has_stalled writer is) refused = is
 tried_unrefused Clone given line old new (wrote report is) refused = said_unrefused Clone given line is.parts is.for_clone refused
 tried_unrefused Clone given line old new (wrote_part is) refused = said_unrefused Clone given line is.parts is.for_clone refused
 tried_unrefused Clone given line old new (has_stalled writer is) refused = said_unrefused Clone given line is.parts is.for_clone refused
+tried_unrefused Stream given line old new (wrote report is) refused =
+    streamed_unrefused given line is.at is.plays.config is.divides is.plays.is_for refused
+tried_unrefused Stream given line old new (wrote_part is) refused =
+    streamed_unrefused given line is.at is.plays.config is.divides is.plays.is_for refused
+tried_unrefused Stream given line old new (has_stalled writer is) refused = is
 tried_unrefused Read given line old new (wrote report is) refused = bytes_unrefused Read given is.0.bytes line is.0.writes refused
 tried_unrefused Read given line old new (wrote_part is) refused = bytes_unrefused Read given is.bytes line is.writes refused
 tried_unrefused Read given line old new (has_stalled writer is) refused = is
@@ -62,6 +69,7 @@ pub refused_reads : (command : Command) (given line : List ℕ) → Refuses comm
 refused_reads Replay given line refused = tt
 refused_reads Run given line refused = tt
 refused_reads Clone given line refused = tt
+refused_reads Stream given line refused = tt
 refused_reads Read given line refused = tt
 refused_reads Check given line refused = tt
 refused_reads (Gen number writers packets) given line refused = refused
@@ -71,6 +79,7 @@ pub report_reads : (command : Command) → LeavesReport command → ReadsInput c
 report_reads Replay is = tt
 report_reads Run is = tt
 report_reads Clone is = tt
+report_reads Stream is = tt
 report_reads Read is = tt
 report_reads Check is = tt
 report_reads (Gen number writers packets) is = is
@@ -81,6 +90,7 @@ pub played_reports : (command : Command) → PlaysByLine command → LeavesRepor
 played_reports Replay is = tt
 played_reports Run is = tt
 played_reports Clone is = tt
+played_reports Stream is = tt
 played_reports Read is = is
 played_reports Check is = is
 played_reports (Gen number writers packets) is = is
@@ -90,6 +100,7 @@ played_reports (Tune users turns) is = is
 pub stalled_by_line : (command : Command) (given : List ℕ) (writer : ℕ) (old new : Intake) → HasStalled command given writer old new → PlaysByLine command
 stalled_by_line Replay given writer old new has = tt
 stalled_by_line Clone given writer old new has = tt
+stalled_by_line Stream given writer old new has = has
 stalled_by_line Run given writer old new has = has
 stalled_by_line Read given writer old new has = has
 stalled_by_line Check given writer old new has = has

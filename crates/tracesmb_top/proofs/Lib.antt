@@ -7,3 +7,4 @@ pub mod CommandLemmas
 pub mod GatherLemmas
 pub mod RunLemmas
 pub mod TuneLemmas
+pub mod StreamLemmas

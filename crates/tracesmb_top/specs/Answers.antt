@@ -20,7 +20,7 @@ pub record SaysBehind (old new : Intake) (old_faults new_faults : ℕ) (report l
 -- ---- the lines, each with its line feed
 
 unfoldable pub usage_line : List ℕ
-usage_line = codes "usage: tracesmb replay|run|read|check|gen NUMBER WRITERS PACKETS|clone|tune USERS TURNS\n"
+usage_line = codes "usage: tracesmb replay|run|read|check|gen NUMBER WRITERS PACKETS|stream|clone|tune USERS TURNS\n"
 
 -- what is said where memory ran out
 unfoldable pub memory_line : List ℕ

@@ -16,8 +16,9 @@ use Rattle.replay_host.specs.Replaying.{HasStopped}
 use Rattle.tune_lines.specs.Lines.{field_text}
 use Rattle.tracesmb_top.specs.declared.cloning.CloneCount.{CloneCount}
 use Rattle.tracesmb_top.specs.declared.report.Report.{Report}
-use Rattle.tracesmb_top.specs.declared.report.Report.TheVariants.{Played, Cloned}
+use Rattle.tracesmb_top.specs.declared.report.Report.TheVariants.{Played, Cloned, Streamed}
 use Rattle.tracesmb_top.specs.Refusals.{IsFor}
+use Rattle.tracesmb_top.specs.Streamed.{stream_text}
 use Rattle.loss_report.specs.Raws.{done_text}
 
 -- ---- the lines of clones
@@ -35,6 +36,7 @@ clones_text counts = lines_of clone_line 1 counts
 abbrev pub report_of : Report → List ℕ
 report_of (Played done) = done_text done
 report_of (Cloned done clones) = done_text done ++ clones_text clones.items
+report_of (Streamed done) = stream_text done
 
 -- ---- what is read of clones
 

@@ -7,4 +7,5 @@ pub mod Replayed
 pub mod Ran
 pub mod Words
 pub mod Given
+pub mod Streamed
 pub mod Tuned

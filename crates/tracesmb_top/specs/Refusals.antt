@@ -26,13 +26,13 @@ unfit_words Check (Raw writer chunk) = Some (codes "not under check")
 unfit_words command other = None
 
 -- `line L: REASON`, with its line feed
-unfoldable pub unfit_line : ℕ → List ℕ → List ℕ
-unfit_line line words = codes "line " ++ decimal line ++ codes ": " ++ words ++ codes "\n"
+unfoldable pub reason_line : ℕ → List ℕ → List ℕ
+reason_line line words = codes "line " ++ decimal line ++ codes ": " ++ words ++ codes "\n"
 
 -- the line that says so, or what else is said
 abbrev pub unfit_or : Option (List ℕ) → ℕ → Option (List ℕ) → Option (List ℕ)
 unfit_or None line else_said = else_said
-unfit_or (Some words) line else_said = Some (unfit_line line words)
+unfit_or (Some words) line else_said = Some (reason_line line words)
 
 -- the first of the lines that isn't for the command
 abbrev pub unfit_in : Command → List NumberedLine → Option (List ℕ)

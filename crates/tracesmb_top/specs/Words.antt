@@ -1,7 +1,7 @@
 -- The words that the program has a command for.
 use Rattle.std.specs.Prelude.{ℕ, List}
 use Rattle.command_words.specs.declared.command.Command.{Command}
-use Rattle.command_words.specs.declared.command.Command.TheVariants.{Clone, Gen, Replay, Run, Tune}
+use Rattle.command_words.specs.declared.command.Command.TheVariants.{Clone, Gen, Replay, Run, Stream, Tune}
 use Rattle.command_words.specs.Commands.{Spells}
 
 -- the words ask for the command: they are its written form
@@ -22,11 +22,12 @@ ReadsInput other = Unit {0}
 abbrev pub AskForNoInput : List (List ℕ) → Type 0
 AskForNoInput words = (command : Command) → Ask words command → ReadsInput command → ⊥
 
--- the command plays a scenario, which alone leaves a report
+-- the command plays a scenario or a stream, which alone leaves a report
 abbrev pub LeavesReport : Command → Type 0
 LeavesReport Replay = Unit {0}
 LeavesReport Run = Unit {0}
 LeavesReport Clone = Unit {0}
+LeavesReport Stream = Unit {0}
 LeavesReport other = ⊥
 
 -- the command plays a scenario line by line, on one thread: in `replay` and `clone` alone a writer ends stalled

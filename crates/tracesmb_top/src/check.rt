@@ -26,7 +26,7 @@ pub enum CheckingFault {
 
 /// Where the first line `==` begins. One without its line feed divides nothing. All but the first line
 /// have a line feed before them, so that one search in wide steps finds it, and no line is cut out.
-fn find_divider(input: &[u8]) -> Option<usize>
+pub fn find_divider(input: &[u8]) -> Option<usize>
     ensures place { result ≡ divider_of input.now }
     ensures inside { IfSome result (λ at. at + 3 ≤ length input.now) }
 {

@@ -33,7 +33,7 @@ pub struct CloneCount {
 const LINE_ROOM: usize = 128;
 
 /// Writes a name and its number behind what there is of a line.
-fn push_number(line: &mut ArrayVec<u8, LINE_ROOM>, name: &[u8], value: u64)
+pub(crate) fn push_number(line: &mut ArrayVec<u8, LINE_ROOM>, name: &[u8], value: u64)
     requires name { length name.now ≤ 12 }
     requires room { length line.old.items + 32 ≤ LINE_ROOM }
     ensures items { line.new.items ≡ line.old.items ++ field_text name.now value }

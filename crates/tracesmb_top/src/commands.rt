@@ -11,6 +11,7 @@ use crate::gather;
 use crate::input::Given;
 use crate::report::Report;
 use crate::say::trace_fault_line;
+use crate::streaming::stream;
 use crate::unfit::find_unfit;
 use arrayvec::ArrayVec;
 use byte_io::put::{WriteFault, put_all};
@@ -230,7 +231,7 @@ pub fn tune<R: Threads + Sync, T: Sink, G: Gate + Sync>(
     }
 }
 
-/// Does a command with what it was given, and writes on the trace; `replay`, `run` and `clone` leave their report. All memory is taken before
+/// Does a command with what it was given, and writes on the trace; `replay`, `run`, `stream` and `clone` leave their report. All memory is taken before
 /// the first byte.
 pub fn perform<R: Threads + Wait + Sync, T: Sink + Send, G: Gate + Sync>(
     rt: &R,
@@ -256,6 +257,7 @@ pub fn perform<R: Threads + Wait + Sync, T: Sink + Send, G: Gate + Sync>(
         Given::Bytes(bytes) => match command {
             Command::Read => read(alloc, &bytes, trace),
             Command::Check => check(alloc, &bytes, trace),
+            Command::Stream => stream(alloc, &bytes, trace),
             Command::Gen {
                 number,
                 writers,

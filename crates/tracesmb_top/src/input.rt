@@ -49,7 +49,9 @@ pub fn take_input<S: Source>(
             Ok(said) => Ok(Given::Scenario(said)),
             Err(fault) => Err(fault),
         },
-        Command::Read | Command::Check => match fill_all(alloc, input, MAX_INPUT) {
+        Command::Read | Command::Check | Command::Stream => match fill_all(
+            alloc, input, MAX_INPUT,
+        ) {
             Ok(bytes) => Ok(Given::Bytes(bytes)),
             Err(fault) => Err(fault),
         },

@@ -11,6 +11,7 @@ mod input;
 mod null_sink;
 mod report;
 mod say;
+mod streaming;
 mod top;
 mod unfit;
 mod words;

@@ -6,11 +6,13 @@ ghost use Rattle.loss_report.specs.Raws.{done_text};
 ghost use Rattle.tracesmb_top.specs.Cloned.{report_of};
 
 use crate::cloning::{CloneCount, put_clones};
+use crate::streaming::put_stream;
 use byte_io::buffered::{BufferedSink, PendingBytes};
 use byte_io::put::WriteFault;
 use byte_io::traits::Sink;
 use loss_report::{Done, put_raw, put_report};
 use std::alloc::Global;
+use stream_producer::StreamDone;
 
 /// What a command left to be reported.
 #[derive(Drop)]
@@ -19,6 +21,8 @@ pub enum Report {
     Played(Done),
     /// Of a replay with clones, of which each has its line.
     Cloned { done: Done, clones: Vec<CloneCount> },
+    /// Of a stream of commits.
+    Streamed(StreamDone),
 }
 
 /// Writes the report of what a replay or a run left.
@@ -49,6 +53,7 @@ fn put_lines<O: Sink>(out: &mut O, report: &Report) -> Result<(), WriteFault>
             put_done(out, done)?;
             put_clones(out, clones)
         }
+        Report::Streamed(done) => put_stream(out, done),
     }
 }
 

@@ -32,7 +32,7 @@ pub fn say_usage<O: Sink>(text: &mut O) -> u8
 {
     say(
         text,
-        b"usage: tracesmb replay|run|read|check|gen NUMBER WRITERS PACKETS|clone|tune USERS TURNS\n",
+        b"usage: tracesmb replay|run|read|check|gen NUMBER WRITERS PACKETS|stream|clone|tune USERS TURNS\n",
     );
     2
 }
@@ -128,7 +128,7 @@ pub fn say_report<O: Sink>(alloc: Global, text: &mut O, report: &Report) -> u8
 
 /// `offset N: REASON`, with its line feed.
 #[tactic(auto, unfolding(crate::specs::Refusals::offset_line))]
-fn offset_line(offset: u64, reason: &[u8]) -> ArrayVec<u8, 64>
+pub(crate) fn offset_line(offset: u64, reason: &[u8]) -> ArrayVec<u8, 64>
     requires { length reason.now ≤ 16 }
     ensures { result.items ≡ refusals.offset_line offset reason.now }
 {

@@ -26,7 +26,7 @@ use trace_base::limits::MAX_INPUT;
 ///
 /// | status | comes | on `text` |
 /// |---|---|---|
-/// | 0 | the trace has taken what the command writes | the report for `replay`, `run` and `clone`, else nothing |
+/// | 0 | the trace has taken what the command writes | the report for `replay`, `run`, `stream` and `clone`, else nothing |
 /// | 1 | memory ran out, before anything was written | `out of memory` |
 /// | 2 | the words ask for no command | the usage |
 /// | 3 | the input is refused, by its first fault | `line L: REASON`, `offset N: REASON` |
@@ -55,7 +55,8 @@ pub fn trace_top<R: Threads + Wait + Sync, S: Source, T: Sink + Send, O: Sink, G
     ensures known { result ≤ 7 }
 
     // Status 0: the trace took what the command writes for what it was given, and the text its report; the input was read
-    // whole, and nothing failed. No command but `replay`, `run` and `clone` has a report.
+    // whole, and nothing failed. No command but `replay`, `run`, `stream` and `clone` has
+    // a report.
     ensures writes { result ≡ 0 → (command : Command) × (given report : List ℕ) × Ask (map string_bytes words.now) command
         × IsGiven command (S.left input.old) given × Wrote command given (T.taken trace.old) (T.taken trace.new) report
         × (O.taken text.new ≡ after_told (O.taken text.old) report) }

@@ -8,10 +8,10 @@ use command_words::Command;
 use scenario_text::{LineKind, LineList};
 
 /// `line L: REASON`, with its line feed.
-#[tactic(auto, unfolding(crate::specs::Refusals::unfit_line))]
-fn unfit_line(line: u32, words: &[u8]) -> ArrayVec<u8, 64>
-    requires { length words.now ≤ 16 }
-    ensures { result.items ≡ refusals.unfit_line line words.now }
+#[tactic(auto, unfolding(crate::specs::Refusals::reason_line))]
+pub(crate) fn reason_line(line: u32, words: &[u8]) -> ArrayVec<u8, 64>
+    requires { length words.now ≤ 24 }
+    ensures { result.items ≡ refusals.reason_line line words.now }
 {
     let mut digits = itoa::Buffer::new();
     let mut bytes = ArrayVec::new();
@@ -31,18 +31,18 @@ fn line_unfit(command: Command, line: u32, what: &LineKind<'_>) -> Option<ArrayV
 {
     match what {
         LineKind::Close { producer: _ } => match command {
-            Command::Run => Some(unfit_line(line, b"not under run")),
+            Command::Run => Some(reason_line(line, b"not under run")),
             _ => None,
         },
         LineKind::CloneBuffer { buffer: _ } => match command {
-            Command::Replay => Some(unfit_line(line, b"not under replay")),
-            Command::Run => Some(unfit_line(line, b"not under run")),
-            Command::Check => Some(unfit_line(line, b"not under check")),
+            Command::Replay => Some(reason_line(line, b"not under replay")),
+            Command::Run => Some(reason_line(line, b"not under run")),
+            Command::Check => Some(reason_line(line, b"not under check")),
             _ => None,
         },
         LineKind::Raw { .. } => match command {
-            Command::Run => Some(unfit_line(line, b"not under run")),
-            Command::Check => Some(unfit_line(line, b"not under check")),
+            Command::Run => Some(reason_line(line, b"not under run")),
+            Command::Check => Some(reason_line(line, b"not under check")),
             _ => None,
         },
         _ => None,
