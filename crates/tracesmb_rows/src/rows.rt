@@ -487,7 +487,7 @@ fn does_other_commands(rt: HostRuntime) -> Result<(), Fail> {
 }
 
 const USAGE: &[u8] =
-    b"usage: tracesmb replay|run|read|check|gen NUMBER WRITERS PACKETS|clone|tune USERS TURNS\n";
+    b"usage: tracesmb replay|run|read|check|gen NUMBER WRITERS PACKETS|stream|clone|tune USERS TURNS\n";
 
 static WRONG_WORDS: [&[&str]; 8] = [
     &[],
