@@ -13,7 +13,7 @@ standard output and standard error, byte for byte.
     tune      turns of users, by the sums that any order has to keep
     clone     scenarios whose lines make clones of buffers
     raw       scenarios whose lines commit chunks that no writer made
-    stream    configuration texts and frames, some of them broken: only where it is named, since the program has no such command yet
+    stream    configuration texts and frames, some of them broken
     settled   `run` of scenarios whose outcome no thread decides
     run       `run` of any: that the trace tells of the scenario, by the second reading's `check`, that each line of the report adds up,
               and that it counts the trace's records; of a refused one the line
@@ -81,8 +81,8 @@ def made_gen(seed, _):
 def made_words(seed, _):
     chooser = random.Random(seed)
     odd = ['', '0', '1', '01', '-1', '+1', '64', '65', '100000', '100001', '18446744073709551615', '18446744073709551616', '1 ', '٣',
-           '1.0', '9' * 40, 'help', '--help', '-h', '--version', 'Replay', 'replay', 'run', 'read', 'check', 'gen', 'clone', 'tune', '--']
-    words = [chooser.choice(['replay', 'run', 'read', 'check', 'clone', 'gen', 'gen', 'gen', *odd])]
+           '1.0', '9' * 40, 'help', '--help', '-h', '--version', 'Replay', 'replay', 'run', 'read', 'check', 'gen', 'stream', 'clone', 'tune', '--']
+    words = [chooser.choice(['replay', 'run', 'read', 'check', 'stream', 'clone', 'gen', 'gen', 'gen', *odd])]
     count = chooser.choice([0, 0, 1, 3, 3, 3, 4]) if words != ['gen'] else chooser.choice([0, 2, 3, 3, 3, 3, 3, 4])
     words += [chooser.choice(odd if chooser.random() < .3 else ['0', '1', '2', '7']) for _ in range(count)]
     return words, b''

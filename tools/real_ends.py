@@ -20,6 +20,7 @@ TOP = os.path.dirname(os.path.dirname(os.path.abspath(__file__)))
 MOST = 67_108_864
 SET = b'buffer 64 ring\nproducer 1 4096 14\nwriter 1 1 drop\n'
 STALL = b'buffer 64 ring\nproducer 1 4096 1\nwriter 1 1 stall\nwriter 1 1 stall\np 1 8:1\np 2 8:2\n'
+STREAM = b'buffers { size_kb: 4 }\ndata_sources { }\n==\n' + bytes.fromhex('0e0000000101000000000100010000024005 0100000003')
 USAGE = b'usage: tracesmb '
 
 
@@ -61,26 +62,28 @@ def each_status(tries):
     tries.say('status 0: run', tries.run(['run'], hello)[:2], (0, trace))
     tries.say('status 0: read', tries.run(['read'], trace), (0, b'sequence 2 packets 2 marked 1 bytes 43\npackets 2 bytes 43\n', b''))
     tries.say('status 0: check', tries.run(['check'], hello + b'==\n' + trace), (0, b'agrees 2\n', b''))
+    tries.say('status 0: stream', tries.run(['stream'], STREAM)[:2], (0, bytes.fromhex('0a0740055002d00201')))
     tries.say('status 0: clone', tries.run(['clone'], hello + b'f 1\nc 1\nk 1\n')[:2], (0, trace))
     tries.say('status 0: gen', tries.run(['gen', '0', '1', '1'])[::2], (0, b''))
     tries.say('status 0: gen, its numbers in their order', tries.run(['gen', '0', '1', '2'])[1].count(b'\np '), 2)
     tries.say('status 0: tune, its numbers in their order', tries.run(['tune', '1', '2'])[1].splitlines()[:1], [b'user 1 claimed 1 none 0 retiled 1 refused 0'])
-    for words in [[], ['play'], ['help'], ['--help'], ['replay', 'read'], ['read', ''], ['gen'], ['gen', '1', '2'], ['gen', '1', '0', '1'], ['gen', '1', '1', '1', '1'], ['tune', '9', '1'], ['tune', '1']]:
+    for words in [[], ['play'], ['help'], ['--help'], ['replay', 'read'], ['read', ''], ['gen'], ['gen', '1', '2'], ['gen', '1', '0', '1'], ['gen', '1', '1', '1', '1'], ['stream', '1'], ['tune', '9', '1'], ['tune', '1']]:
         tries.say(f'status 2: {words}', tries.run(words, hello), lambda found: found[:2] == (2, b'') and found[2].startswith(USAGE) and found[2].count(b'\n') == 1)
     tries.say('status 3: replay', tries.run(['replay'], hello + b'p 1 10:5\n'), (3, b'', b'line 6: reserved field 10\n'))
     tries.say('status 3: run', tries.run(['run'], hello + b'x 1\n'), (3, b'', b'line 6: not under run\n'))
     tries.say('status 3: read', tries.run(['read'], trace[:-1])[:2], (3, b''))
     tries.say('status 3: check', tries.run(['check'], hello)[::2], lambda found: found[0] == 3 and found[1].count(b'\n') == 1)
+    tries.say('status 3: stream', tries.run(['stream'], STREAM[:-1]), (3, b'', b'offset 22: no end\n'))
     tries.say('status 6: replay', tries.run(['replay'], STALL), (6, b'', b'stalled: writer 2\n'))
     tries.say('status 6: clone', tries.run(['clone'], STALL), (6, b'', b'stalled: writer 2\n'))
-    for command in ['replay', 'run', 'read', 'check', 'clone']:
+    for command in ['replay', 'run', 'read', 'check', 'stream', 'clone']:
         tries.say(f'status 7: {command}', tries.run([command], b'\n' * (MOST + 1)), (7, b'', b'input too long\n'))
     tries.say('the most that may be read', tries.run(['replay'], b'\n' * MOST)[0], 0)
 
 
 def inputs(tries):
     """Inputs that can't be read, and one that comes a byte at a time."""
-    for command in ['replay', 'run', 'read', 'check']:
+    for command in ['replay', 'run', 'read', 'check', 'stream', 'clone']:
         folder = os.open(TOP, os.O_RDONLY)
         tries.say(f'a folder as input of {command}', tries.run([command], stdin=folder), (4, b'', b'read fault\n'))
         os.close(folder)
@@ -98,7 +101,7 @@ def inputs(tries):
 def full_disks(tries):
     """A disk that is full from the start, and a file that may not grow past a limit."""
     with open('/dev/full', 'wb') as full:
-        for words, text in [(['replay'], tries.many), (['run'], tries.many), (['read'], tries.trace), (['check'], tries.many + b'==\n' + tries.trace), (['gen', '1', '2', '3'], b'')]:
+        for words, text in [(['replay'], tries.many), (['run'], tries.many), (['read'], tries.trace), (['check'], tries.many + b'==\n' + tries.trace), (['gen', '1', '2', '3'], b''), (['stream'], STREAM)]:
             tries.say(f'a full disk under {words[0]}', tries.run(words, text, stdout=full)[::2], lambda found: found[0] == 5 and found[1].endswith(b'write fault\n'))
         tries.say('a full disk under the report', tries.run(['replay'], tries.many, stderr=full)[:2], (5, tries.trace))
         tries.say('a full disk under a line', tries.run(['play'], stderr=full)[:2], (2, b''))

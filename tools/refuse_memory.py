@@ -77,6 +77,7 @@ def main():
             trace = open(os.path.join(TOP, 'examples/day.trace'), 'rb').read()
             threads = open(os.path.join(TOP, 'examples/timeline.scenario'), 'rb').read()
             runs = [(['replay'], scenario), (['run'], threads), (['read'], trace), (['check'], scenario + b'==\n' + trace), (['gen', '7', '3', '20'], b''),
+                (['stream'], open(os.path.join(TOP, 'examples/hostile/two-sources.stream'), 'rb').read()),
                 (['clone'], open(os.path.join(TOP, 'examples/crash.clone'), 'rb').read()), (['tune', '3', '20'], b'')]
         bad = 0
         for words, text in runs:

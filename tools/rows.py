@@ -256,6 +256,8 @@ def stream_rows():
     rest = '1C 00 00 00 01 01 01 00 00 00 01 00 01 04 01 00 00 00 00 02 00 00 00 83 80 80 00 01 03 61 62 63'
     yield streamed('a length that comes late', f'{front} {rest} {CLOSE}', '0A 0D 0A 83 80 80 00 61 62 63 50 02 D0 02 01',
                    f'{ringed(2)} / {sequence(2, 1, delivered=1)} / stream commits 2 refused 0')
+    yield Row('examples/out_of_order.stream', 'stream', content_of('out_of_order.stream'), 0, content_of('out_of_order.trace'),
+              content_of('out_of_order.report'))
 
 
 def command_rows():

@@ -4,7 +4,7 @@ from dataclasses import dataclass
 
 OUT_OF_MEMORY, USAGE, REFUSED, READ_FAULT, WRITE_FAULT, STALLED, TOO_LONG = range(1, 8)
 
-USAGE_LINE = b'usage: tracesmb replay|run|read|check|gen NUMBER WRITERS PACKETS|clone|tune USERS TURNS\n'
+USAGE_LINE = b'usage: tracesmb replay|run|read|check|gen NUMBER WRITERS PACKETS|stream|clone|tune USERS TURNS\n'
 
 
 @dataclass(frozen=True)

@@ -17,9 +17,9 @@ from model.summary import read
 from model.tune import tune
 from model.workload import workload
 
-OF_INPUT: dict[str, Callable[[bytes], Answer]] = {'replay': replay, 'run': run, 'read': read, 'check': check, 'clone': clone}
+OF_INPUT: dict[str, Callable[[bytes], Answer]] = {'replay': replay, 'run': run, 'read': read, 'check': check, 'stream': stream, 'clone': clone}
 # What the program is to have, and hasn't yet. These words are read here all the same; the usage line doesn't name them.
-TO_COME: dict[str, Callable[[bytes], Answer]] = {'stream': stream}
+TO_COME: dict[str, Callable[[bytes], Answer]] = {}
 NUMERAL = re.compile(r'0|[1-9][0-9]*', re.ASCII)
 
 
