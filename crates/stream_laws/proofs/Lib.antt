@@ -1,0 +1,11 @@
+pub mod CommitLemmas
+pub mod CountLemmas
+pub mod EventLemmas
+pub mod ReadsLemmas
+pub mod RoomLemmas
+pub mod SentLemmas
+pub mod ShutLemmas
+pub mod SourceLemmas
+pub mod StreamsComplete
+pub mod StreamsTold
+pub mod WorkedLemmas

@@ -1,0 +1,4 @@
+pub mod Laws
+pub mod Sent
+pub mod Sources
+pub mod Worked
