@@ -6,7 +6,7 @@ use Rattle.trace_base.specs.declared.limits.TheConstants.{MAX_INPUT}
 use Rattle.trace_model.specs.Fields.{MessageField}
 use Rattle.trace_model.specs.Walks.{WalkPart, Between, InContent, Unfit, Refused, Walk, is_refused, packet_start, field_ended, content_left, step, walk_over, is_between, is_accepted}
 use Rattle.packet_check.specs.Answers.{answer_in, answer_of, walk_behind}
-use Rattle.packet_check.specs.Messages.{HasField}
+use Rattle.packet_check.specs.Messages.{HasField, HasHead}
 use Rattle.packet_check.specs.Values as values
 use Rattle.packet_check.specs.declared.walk.Part.{Part}
 use Rattle.packet_check.specs.declared.walk.Walk as code
@@ -14,7 +14,7 @@ use Rattle.packet_check.specs.declared.whole.Front.TheVariants as fronts
 use Rattle.packet_check.specs.declared.fault.PacketFault.TheVariants.{ReservedField}
 use Rattle.packet_check.proofs.AnswerLemmas.{IsBetween}
 use Rattle.packet_check.proofs.RiseLemmas.{begun_walk, walk_counts}
-use Rattle.packet_check.proofs.WalkLemmas.{walk_at, walked_on, content_walk, field_walk, unfit_walk, refused_walk, ended_passed, ended_refused}
+use Rattle.packet_check.proofs.WalkLemmas.{walk_at, walked_on, content_walk, field_walk, head_walk, unfit_walk, refused_walk, ended_passed, ended_refused}
 
 long : (bytes : List ℕ) (at len : ℕ) → at + len ≤ length bytes → length (take len (drop at bytes)) ≡ len
 long bytes at len within = length-take-le len (drop at bytes) (omega (arith, length-drop at bytes, within))
@@ -41,6 +41,15 @@ field_taken bytes here number len at start before part is h =
     (ap (λ (p : WalkPart). walk_over (walk_at at start before p) (take len (drop here bytes))) is
     ∙ field_walk (record { number = number; value = h.value }) (take len (drop here bytes)) at start before Between h.spells
     ∙ ap (λ (n : ℕ). field_ended (walk_at (at + n) at number Between)) (length-take-le len (drop here bytes) h.within))
+
+pub head_taken : (bytes : List ℕ) (here number width size at start before : ℕ) (part : WalkPart) → part ≡ Between → HasHead (drop here bytes) number width size
+    → content_left size (walk_at (at + width) at number Between) ≡ walk_over (walk_at at start before part) (take width (drop here bytes))
+head_taken bytes here number width size at start before part is h =
+    sym
+    (ap (λ (p : WalkPart). walk_over (walk_at at start before p) (take width (drop here bytes))) is
+    ∙ ap (walk_over (walk_at at start before Between)) h.cut
+    ∙ head_walk h.tag h.low size at start before number Between h.is_tag h.numbered h.in_range h.is_size
+    ∙ ap (λ (n : ℕ). content_left size (walk_at (at + n) at number Between)) (ap length (sym h.cut) ∙ length-take-le width (drop here bytes) h.within))
 
 pub content_taken : (bytes : List ℕ) (here len left at start number : ℕ) (part : WalkPart) → part ≡ InContent left → 1 ≤ left → len ≤ left
     → here + len ≤ length bytes → content_left (left - len) (walk_at (at + len) start number part) ≡ walk_over (walk_at at start number part) (take len (drop here bytes))

@@ -1,12 +1,13 @@
 -- What the readers of a field in front have found.
-use Rattle.std.proofs.Common.{ℕ, ◌+◌, ◌-◌, ◌/◌, ◌%◌, ◌^◌, ◌<◌, ◌≤◌, List, length, take, drop, refl, arith, length-take, length-drop}
+use Rattle.std.proofs.Common.{◌≡◌, ℕ, ◌+◌, ◌-◌, ◌*◌, ◌/◌, ◌%◌, ◌^◌, ◌<◌, ◌≤◌, List, length, take, drop, refl, subst, arith, length-take, length-drop}
 use Rattle.std.proofs.lemmas.List.{length-take-le, take_rest}
 use Rattle.std.proofs.Math.Nat.{pow-le-pow_right}
+use Rattle.std.proofs.Math.Seq.{take-add}
 use Rattle.wire_varint.specs.Reading.{joined, IsWhole, IsVarint}
 use Rattle.wire_varint.proofs.Joined.{joined-lt}
 use Rattle.trace_model.specs.Fields.{Number, EightBytes, Content, FourBytes}
 use Rattle.trace_model.proofs.FieldLemmas.{content_behind, spells}
-use Rattle.packet_check.specs.Messages.{HasField}
+use Rattle.packet_check.specs.Messages.{HasField, HasHead}
 use Rattle.packet_check.specs.Values.{HasValue}
 
 -- a number that ends within nine bytes stays within 64 bits
@@ -43,6 +44,24 @@ field_is bytes width tag len p low some small has most =
       value = behind.value;
       spells = spells bytes width tag len behind.value p some (omega (arith, small)) behind.wire_is behind.is;
       within = omega (arith, low, most, length-take (length bytes - width) (drop width bytes), length-drop width bytes);
+    }
+
+-- the tag of a content, and its length behind it
+pub head_is : (bytes : List ℕ) (wide tag width size : ℕ) → IsVarint (take wide bytes) tag → wide ≤ length bytes → 8 ≤ tag → tag % 8 ≡ 2 → tag < 2 ^ 14
+    → IsVarint (take width (take (length bytes - wide) (drop wide bytes))) size → width ≤ length (take (length bytes - wide) (drop wide bytes))
+    → HasHead bytes (tag / 8) (wide + width) size
+head_is bytes wide tag width size p low some content small sized most =
+    let is_size : IsVarint (take width (drop wide bytes)) size = rw take_rest at sized in
+    let is : tag ≡ 8 * (tag / 8) + 2 = omega (arith, content) in
+    record {
+      tag = take wide bytes;
+      low = take width (drop wide bytes);
+      cut = take-add wide width bytes;
+      is_tag = subst (IsVarint (take wide bytes)) is p;
+      numbered = omega (arith, some);
+      in_range = omega (arith, small);
+      is_size = is_size;
+      within = omega (arith, low, most, length-take (length bytes - wide) (drop wide bytes), length-drop wide bytes);
     }
 
 pub ruleset value_steps = (number_value, content_value, eight_value, four_value)

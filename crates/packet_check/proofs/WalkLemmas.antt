@@ -180,6 +180,17 @@ field_walk field bytes at start number p h =
     ∙ value_walk field.value h.behind (at + length h.tag) at field.number p h.is_value
     ∙ ap (λ (n : ℕ). field_ended (walk_at n at field.number p)) (omega (arith, length-append h.tag h.behind, ap length h.cut))
 
+-- what a content begins with
+pub head_walk : (tag low : List ℕ) (size at start before number : ℕ) (p : WalkPart) → IsVarint tag (8 * number + 2) → 1 ≤ number → number ≤ MAX_FIELD → IsVarint low size
+    → walk_over (walk_at at start before Between) (tag ++ low) ≡ content_left size (walk_at (at + length (tag ++ low)) at number p)
+head_walk tag low size at start before number p is_tag some most is_size =
+    begun tag low at start before is_tag.whole
+    ∙ walked_on (walk_at at at 0 (InVarint OfTag 0 0)) tag low
+    ∙ ap (λ (walk : Walk). walk_over walk low) (number_walk tag (8 * number + 2) OfTag at at 0 p is_tag)
+    ∙ ap (λ (walk : Walk). walk_over walk low) (tag_fit (8 * number + 2) number 2 (walk_at (at + length tag) at 0 p) some most (omega arith) refl)
+    ∙ number_walk low size OfLength (at + length tag) at number p is_size
+    ∙ ap (λ (n : ℕ). content_left size (walk_at n at number p)) (omega (arith, length-append tag low))
+
 -- ---- where no byte leads on
 
 pub unfit_walk : (bytes : List ℕ) (at start number : ℕ) → walk_over (walk_at at start number Unfit) bytes ≡ walk_at (at + length bytes) start number Unfit

@@ -1,6 +1,8 @@
 -- What a packet is that writers may leave: fields, one behind another, none of which is refused; and how it can be no such
 -- packet. A field is what the protocol-buffers encoding makes one, of whatever varints, and without groups.
-use Rattle.std.specs.Prelude.{◌≡◌, ◌≢◌, ℕ, ◌≤◌, true, false, List, [], ◌++◌, length, take, All}
+use Rattle.std.specs.Prelude.{◌≡◌, ◌≢◌, ℕ, ◌+◌, ◌*◌, ◌≤◌, true, false, List, [], ◌++◌, length, take, All}
+use Rattle.trace_base.specs.declared.limits.TheConstants.{MAX_FIELD}
+use Rattle.wire_varint.specs.Reading.{IsVarint}
 use Rattle.trace_model.specs.Fields.{FieldValue, MessageField, Spells, SpellsAll}
 use Rattle.trace_model.specs.Walks.{is_refused}
 
@@ -9,6 +11,17 @@ pub record HasField (bytes : List ℕ) (number len : ℕ) : Type 0 where
   pub value : FieldValue
   pub spells : Spells (record { number = number; value = value }) (take len bytes)
   pub within : len ≤ length bytes
+
+-- a content of this field number and this length begins in front of the bytes, with so many of them for its tag and its length
+pub record HasHead (bytes : List ℕ) (number width size : ℕ) : Type 0 where
+  pub tag : List ℕ
+  pub low : List ℕ
+  pub cut : take width bytes ≡ tag ++ low
+  pub is_tag : IsVarint tag (8 * number + 2)
+  pub numbered : 1 ≤ number
+  pub in_range : number ≤ MAX_FIELD
+  pub is_size : IsVarint low size
+  pub within : width ≤ length bytes
 
 -- no field stands in front of the bytes
 abbrev pub NoFieldInFront : List ℕ → Type 0

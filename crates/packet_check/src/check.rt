@@ -6,13 +6,39 @@ ghost use Rattle.packet_check.specs.declared.walk.Part.TheVariants as parts;
 ghost use Rattle.trace_model.specs.Walks as model;
 
 use crate::fault::PacketFault;
-use crate::field::field_at;
+use crate::field::{field_at, head_at};
 use crate::walk::{Part, Walk, content_left, field_ended, step, walk_behind, walk_to};
 use std::marker::Model;
 use trace_base::limits::MAX_INPUT;
 
-/// The walk over a field from a place on, and how many bytes it took: the whole field, or its first
-/// byte.
+/// The walk over the tag and the length of a content from a place on, and how many bytes it took: both, or
+/// the first byte.
+fn take_head(walk: Walk, bytes: &[u8], at: usize) -> (Walk, usize)
+    requires between { walk.part ≡ parts.Between }
+    requires within { at < length bytes.now }
+    requires room { walk.at + length bytes.now ≤ at + 2 ^ 63 }
+    ensures walk { walk_of result.0 ≡ model.walk_over (walk_of walk) (take result.1 (drop at bytes.now)) }
+    ensures part { IsPart result.0.part }
+    ensures at { result.0.at ≡ walk.at + result.1 }
+    ensures some { 1 ≤ result.1 }
+    ensures within { at + result.1 ≤ length bytes.now }
+{
+    match head_at(bytes, at) {
+        Some(head) => {
+            let behind = Walk {
+                at: walk.at + head.width as u64,
+                start: walk.at,
+                number: head.number,
+                part: Part::Between,
+            };
+            (content_left(head.size, behind), head.width)
+        }
+        None => (step(walk, bytes[at]), 1),
+    }
+}
+
+/// The walk over a field from a place on, and how many bytes it took: the whole field, or what there is of
+/// its beginning.
 #[inline(always)]
 fn take_field(walk: Walk, bytes: &[u8], at: usize) -> (Walk, usize)
     requires between { walk.part ≡ parts.Between }
@@ -34,7 +60,7 @@ fn take_field(walk: Walk, bytes: &[u8], at: usize) -> (Walk, usize)
             };
             (field_ended(behind), field.len)
         }
-        None => (step(walk, bytes[at]), 1),
+        None => take_head(walk, bytes, at),
     }
 }
 

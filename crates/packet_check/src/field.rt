@@ -1,7 +1,7 @@
 //! A field that stands whole in front of some bytes. Each reader here may give up where it likes: a
 //! field that it doesn't find is walked over byte by byte.
 ghost use Rattle.std.specs.Prelude.{◌+◌, ◌^◌, ◌<◌, ◌≤◌, length, take, drop, IfSome};
-ghost use Rattle.packet_check.specs.Messages.{HasField};
+ghost use Rattle.packet_check.specs.Messages.{HasField, HasHead};
 ghost use Rattle.packet_check.specs.Values.{HasValue};
 ghost use Rattle.wire_varint.specs.Reading.{IsVarint, IsWhole};
 
@@ -10,6 +10,15 @@ ghost use Rattle.wire_varint.specs.Reading.{IsVarint, IsWhole};
 pub(crate) struct Field {
     pub number: u32,
     pub len: usize,
+}
+
+/// What a content begins with: the number of its field, how many bytes its tag and its length have, and how
+/// long it is.
+#[derive(Clone, Copy)]
+pub(crate) struct Head {
+    pub number: u32,
+    pub width: usize,
+    pub size: u64,
 }
 
 /// A tag of one byte or two in front, and how many it has.
@@ -158,4 +167,33 @@ pub(crate) fn field_at(bytes: &[u8], at: usize) -> Option<Field>
     ensures within { IfSome result (λ field. at + field.len ≤ length bytes.now) }
 {
     field_in_front(&bytes[at..])
+}
+
+/// The tag and the length of a content in front, of which the rest may still come.
+fn head_in_front(bytes: &[u8]) -> Option<Head>
+    ensures head { IfSome result (λ head. HasHead bytes.now head.number head.width head.size) }
+    ensures some { IfSome result (λ head. 1 ≤ head.width) }
+    ensures within { IfSome result (λ head. head.width ≤ length bytes.now) }
+{
+    let (tag, wide) = short_tag(bytes)?;
+    if tag < 8 || tag % 8 != 2 {
+        return None;
+    }
+    let (size, width) = short_size(&bytes[wide..])?;
+    Some(Head {
+        number: (tag / 8) as u32,
+        width: wide + width,
+        size,
+    })
+}
+
+/// The tag and the length of a content at a place.
+#[inline(always)]
+pub(crate) fn head_at(bytes: &[u8], at: usize) -> Option<Head>
+    requires { at ≤ length bytes.now }
+    ensures head { IfSome result (λ head. HasHead (drop at bytes.now) head.number head.width head.size) }
+    ensures some { IfSome result (λ head. 1 ≤ head.width) }
+    ensures within { IfSome result (λ head. at + head.width ≤ length bytes.now) }
+{
+    head_in_front(&bytes[at..])
 }
