@@ -4,7 +4,7 @@ use Rattle.std.proofs.lemmas.List.{append-nil, length-append, drop_at}
 use Rattle.stream_frames.specs.Frames.{Frame, Limits, closes}
 use Rattle.stream_frames.specs.Framing.{Front, Short, Bad, Whole, Feeding, Progress, between, going, stopped, by_front, goes_on, then_fed, front_of, fed_byte, fed, reach}
 use Rattle.stream_frames.specs.Laws.{PiecesAreOneStream}
-use Rattle.stream_frames.proofs.FrontLemmas.{front_grows, short_reach, reached}
+use Rattle.stream_frames.proofs.FrontLemmas.{none_front, front_grows, short_reach, reached}
 
 -- ---- two pieces
 
@@ -79,3 +79,9 @@ closed_stops limits at byte bytes = refl
 pub none_fed : (limits : Limits) (feeding : Feeding) → fed limits feeding [] ≡ going feeding
 unfolding fed
 none_fed limits feeding = refl
+
+-- of a piece that a whole frame begins, where nothing of that frame had come
+pub whole_fed : (limits : Limits) (at : ℕ) (piece : List ℕ) (frame : Frame) (size : ℕ) → front_of limits piece ≡ Whole frame size
+    → fed limits (between at false) piece ≡ then_fed (by_front at [] (Whole frame size)) (λ next. fed limits next (drop size piece))
+whole_fed limits at piece frame size is =
+    frames_come limits at [] piece (none_front limits) ∙ ap (behind_front limits at piece) is

@@ -55,6 +55,11 @@ patches_at (suc count) bytes = do
   others ← patches_at count first.1
   Some (first.0 ∷ others.0, others.1)
 
+-- those that were read, if they were
+abbrev pub first_of : Option (List Patch × List ℕ) → List Patch
+first_of None = []
+first_of (Some found) = found.0
+
 -- a number of patches, and so many
 unfoldable pub counted_at : List ℕ → Option (List Patch × List ℕ)
 counted_at bytes = do

@@ -1,13 +1,15 @@
 -- Frames of the code as those that contracts speak of.
-use Rattle.std.specs.Prelude.{map}
-use Rattle.commit_body.specs.Patches.{patch_value}
+use Rattle.std.specs.Prelude.{List}
+use Rattle.trace_model.specs.Images.{Patch}
 use Rattle.stream_frames.specs.declared.frame.FrameLimits.{FrameLimits}
 use Rattle.stream_frames.specs.declared.frame.Commit.{Commit}
 use Rattle.stream_frames.specs.declared.frame.Frame.{Frame}
 use Rattle.stream_frames.specs.declared.frame.Frame.TheVariants as frames
 use Rattle.stream_frames.specs.declared.front.Front.{Front}
 use Rattle.stream_frames.specs.declared.front.Front.TheVariants as fronts
+use Rattle.stream_frames.specs.declared.patches.PatchBytes.{PatchBytes}
 use Rattle.stream_frames.specs.declared.reader.FrameReader.{FrameReader}
+use Rattle.stream_frames.specs.Decoding.{patches_at, first_of}
 use Rattle.stream_frames.specs.Frames as model
 use Rattle.stream_frames.specs.Framing as framing
 
@@ -15,10 +17,14 @@ use Rattle.stream_frames.specs.Framing as framing
 abbrev pub limits_value : FrameLimits → model.Limits
 limits_value limits = record { buffers = limits.buffers; sizes = limits.payload_sizes.items }
 
+-- the patches that stand in front of a commit's bytes
+abbrev pub patches_value : PatchBytes → List Patch
+patches_value patches = first_of (patches_at patches.count patches.bytes.now)
+
 -- a commit
 abbrev pub commit_value : Commit → model.Commit
 commit_value commit =
-    record { target = commit.target; header = commit.header; patches = map patch_value commit.patches.items; payload = commit.payload.now }
+    record { target = commit.target; header = commit.header; patches = patches_value commit.patches; payload = commit.payload.now }
 
 -- a frame
 abbrev pub frame_value : Frame → model.Frame

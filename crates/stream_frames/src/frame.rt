@@ -3,8 +3,8 @@ ghost use Rattle.std.specs.Prelude.{◌≡◌};
 ghost use Rattle.stream_frames.specs.Values.{frame_value};
 ghost use Rattle.stream_frames.specs.Frames.{closes};
 
+use crate::patches::PatchBytes;
 use arrayvec::ArrayVec;
-use commit_body::{MAX_PATCHES, Patch};
 use page_geometry::ChunkHeader;
 use trace_base::limits::MAX_WRITERS;
 
@@ -22,7 +22,7 @@ pub struct Commit<'a> {
     /// The number of the buffer that it is for.
     pub target: u8,
     pub header: ChunkHeader,
-    pub patches: ArrayVec<Patch, MAX_PATCHES>,
+    pub patches: PatchBytes<'a>,
     pub payload: &'a [u8],
 }
 

@@ -7,9 +7,11 @@
 
 mod check;
 mod decoding;
+mod fields;
 mod frame;
 mod front;
 mod laws;
+mod patches;
 mod reader;
 
 pub use check::{FrameFault, check_frames};
@@ -17,4 +19,5 @@ pub use decoding::decode;
 pub use frame::{Commit, Frame, FrameLimits};
 pub use front::{Front, MAX_FRAME, front_of};
 pub use laws::{frames_are_spelled, pieces_are_one_stream};
+pub use patches::PatchBytes;
 pub use reader::FrameReader;

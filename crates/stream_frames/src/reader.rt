@@ -1,5 +1,5 @@
 //! A stream that comes in pieces.
-ghost use Rattle.std.specs.Prelude.{◌≡◌, ◌+◌, ◌^◌, ◌<◌, ◌≤◌, false, length, vec_capacity, IfOk};
+ghost use Rattle.std.specs.Prelude.{◌≡◌, ◌+◌, ◌^◌, ◌<◌, ◌≤◌, ◌==◌, false, [], length, vec_capacity, IfOk};
 ghost use Rattle.stream_frames.specs.Framing.{reach};
 ghost use Rattle.stream_frames.specs.declared.reader.TheConstants.{ROOM};
 
@@ -77,6 +77,13 @@ impl FrameReader {
         self.at
     }
 
+    /// Whether no byte of a frame has come.
+    pub fn is_between(&self) -> bool
+        ensures { result ≡ (length (feeding_of self.now).have == 0) }
+    {
+        self.have.is_empty()
+    }
+
     /// How many bytes of the stream have come.
     pub fn stream_len(&self) -> u64
         requires { (feeding_of self.now).at + length (feeding_of self.now).have < 2 ^ 64 }
@@ -117,6 +124,18 @@ impl FrameReader {
     {
         self.at += self.have.len() as u64;
         self.have.clear();
+        self.closed = closes;
+    }
+
+    /// Goes on behind a frame of so many bytes, of which the reader took none.
+    pub fn pass(&mut self, size: usize, closes: bool)
+        requires between { (feeding_of self.old).have ≡ [] }
+        requires length { (feeding_of self.old).at + size < 2 ^ 64 }
+        ensures feeding { feeding_of self.new ≡ between ((feeding_of self.old).at + size) closes }
+        ensures limits { limits_of self.new ≡ limits_of self.old }
+        ensures reading { IsReading (limits_of self.new) (feeding_of self.new) }
+    {
+        self.at += size as u64;
         self.closed = closes;
     }
 }

@@ -49,7 +49,9 @@ fn reads_a_commit(rt: HostRuntime) -> Result<(), Fail> {
         bytes: *b"abcd",
         last: true,
     };
-    assert_eq!(rt; patches.as_slice(), [first, second].as_slice());
+    let mut room = ArrayVec::new();
+    patches.put_into(&mut room);
+    assert_eq!(rt; room.as_slice(), [first, second].as_slice());
     assert_eq!(rt; payload, b"\x02\x40\x05".as_slice());
     Ok(())
 }
