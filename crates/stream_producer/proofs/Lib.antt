@@ -7,6 +7,7 @@ pub mod FinishLemmas
 pub mod FrontLemmas
 pub mod LimitLemmas
 pub mod MakingLemmas
+pub mod PlaceLemmas
 pub mod PlayLemmas
 pub mod ReadLemmas
 pub mod ReadingLemmas

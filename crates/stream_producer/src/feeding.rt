@@ -10,7 +10,7 @@ use crate::fault::StreamFault;
 use crate::producer::StreamCore;
 use byte_io::traits::Sink;
 use chunk_plain::Words;
-use stream_frames::Front;
+use stream_frames::{Front, front_of};
 
 impl<W: Words> StreamCore<W, W::Service> {
     ghost use Rattle.stream_producer.specs.Feeding.{IsFeeding, HasWholeFrame, Feeds, FeedsSome, Stops, HasTaken, IsTraceOf};
@@ -44,7 +44,8 @@ impl<W: Words> StreamCore<W, W::Service> {
         }
     }
 
-    /// Takes bytes of the piece, at most up to a frame's end, and plays that frame. Says how many.
+    /// Takes bytes of the piece, at most up to a frame's end, and plays that frame. Says how many. A frame that
+    /// stands whole in the piece is played where it stands, without a copy.
     fn feed_some<O: Sink>(&mut self, piece: &[u8], out: &mut O) -> Result<usize, StreamFault>
         requires feeding { IsFeeding W.means self.old }
         requires length { (feeding_of self.old.reader).at + length (feeding_of self.old.reader).have + length piece.now < 2 ^ 64 }
@@ -59,6 +60,14 @@ impl<W: Words> StreamCore<W, W::Service> {
         if self.reader.is_closed() {
             let offset = self.reader.offset();
             return Err(StreamFault::BadFrame { offset });
+        }
+        if self.reader.is_between() {
+            if let Front::Whole { frame, size } = front_of(self.reader.limits(), piece) {
+                let closes = frame.closes();
+                self.player.play(self.reader.limits(), frame, out)?;
+                self.reader.pass(size, closes);
+                return Ok(size);
+            }
         }
         let count = self.reader.take(piece);
         self.play_front(out)?;

@@ -58,6 +58,7 @@ impl<W: Words> Player<W, W::Service> {
         let header = commit.header;
         let size = limits.payload_sizes[usize::from(header.writer_id) - 1] as usize;
         fill(&mut self.payload, commit.payload, size);
+        commit.patches.put_into(&mut self.patches);
         let image = Image {
             sequence: u32::from(header.writer_id) + 1,
             chunk_id: header.chunk_id,
@@ -67,7 +68,7 @@ impl<W: Words> Player<W, W::Service> {
         };
         let answer = self
             .service
-            .commit(&mut self.table, commit.target, &image, &commit.patches);
+            .commit(&mut self.table, commit.target, &image, &self.patches);
         self.commits = self.commits.saturating_add(1);
         if is_refused(answer) {
             self.refused = self.refused.saturating_add(1);

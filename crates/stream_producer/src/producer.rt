@@ -1,11 +1,12 @@
 //! A stream producer, and how it is made.
-ghost use Rattle.std.specs.Prelude.{◌≡◌, IfOk};
+ghost use Rattle.std.specs.Prelude.{IfOk};
 ghost use Rattle.config_text.specs.Configs.{parts_of};
 ghost use Rattle.config_text.specs.Writing.{IsWritable};
 
 use crate::counting::{NO_CHUNKS, NO_PACKETS};
 use crate::making::{buffer_specs, frame_limits, producer_specs, writer_specs};
 use crate::player::Player;
+use arrayvec::ArrayVec;
 use chunk_plain::{PlainService, PlainTable, Words};
 use config_text::Config;
 use loss_report::SequenceCounts;
@@ -57,6 +58,7 @@ impl StreamCore<PlainTable, PlainService> {
                 table,
                 service,
                 payload: Vec::with_capacity(alloc, MAX_PAGE_SIZE as usize)?,
+                patches: ArrayVec::new(),
                 commits: 0,
                 refused: 0,
             },

@@ -1,8 +1,9 @@
 -- A commit is one call of the service.
-use Rattle.std.proofs.Common.{◌≡◌, ◌∙◌, ℕ, ◌+◌, ◌-◌, true, false, refl, sym, arith}
+use Rattle.std.proofs.Common.{◌≡◌, ◌∙◌, ℕ, ◌+◌, ◌-◌, true, false, List, map, sym, ap, arith}
 use Rattle.trace_model.specs.Counts.{raised, one_if}
 use Rattle.trace_model.proofs.CountedLemmas.{raised-none}
-use Rattle.trace_model.specs.Images.{Image}
+use Rattle.trace_model.specs.Images.{Image, Patch}
+use Rattle.commit_body.specs.Patches.{patch_value}
 use Rattle.stream_frames.specs.Frames as frames
 use Rattle.stream_frames.specs.Values.{limits_value, commit_value}
 use Rattle.stream_producer.specs.History.{source_of}
@@ -34,16 +35,17 @@ returns-then-is_refused g c = record {
         flags = commit.header.flags;
         payload = c.deref-2.result.now;
       } in
-      let noted = rw c.deref-3.ensures.0 at call.ensures.noted in
+      let patches : List Patch = map patch_value c.deref-3.result.now in
+      let given : patches ≡ commit.patches = ap (map patch_value) c.deref-3.ensures.0 ∙ c.put_into.ensures in
       let fits = c.fits-self in
       let counted = c.saturating_add-self.ensures in
       let commits : c.saturating_add-self.result ≡ raised old.commits 1 = omega (arith, counted, fits) in
       let more = c.saturating_add-self-then-is_refused.ensures in
       let raises : c.saturating_add-self-then-is_refused.result ≡ raised old.refused (one_if true) = omega (arith, more, fits) in
-      commit_played means limits commit old _ c.requires.stands call.result true place image commit.patches here
+      commit_played means limits commit old _ c.requires.stands call.result true place image patches here
       (image_shown means limits commit old old c.requires.stands c.deref.result.now c.from.result c.from-2.result c.deref-2.result.now
       c.deref.ensures.0 c.from.ensures c.from-2.ensures (c.deref-2.ensures.value ∙ c.fill.ensures.bytes))
-      refl call.ensures.agrees call.ensures.step call.ensures.keeps call.ensures.wrong call.ensures.outcome noted
+      given call.ensures.agrees call.ensures.step call.ensures.keeps call.ensures.wrong call.ensures.outcome call.ensures.noted
       (sym c.if-is_refused.true ∙ c.is_refused.ensures)
       commits raises taken;
 }
@@ -66,15 +68,16 @@ returns-else-is_refused g c = record {
         flags = commit.header.flags;
         payload = c.deref-2.result.now;
       } in
-      let noted = rw c.deref-3.ensures.0 at call.ensures.noted in
+      let patches : List Patch = map patch_value c.deref-3.result.now in
+      let given : patches ≡ commit.patches = ap (map patch_value) c.deref-3.ensures.0 ∙ c.put_into.ensures in
       let fits = c.fits-self in
       let counted = c.saturating_add-self.ensures in
       let commits : c.saturating_add-self.result ≡ raised old.commits 1 = omega (arith, counted, fits) in
       let raises : old.refused ≡ raised old.refused (one_if false) = sym (raised-none old.refused) in
-      commit_played means limits commit old _ c.requires.stands call.result false place image commit.patches here
+      commit_played means limits commit old _ c.requires.stands call.result false place image patches here
       (image_shown means limits commit old old c.requires.stands c.deref.result.now c.from.result c.from-2.result c.deref-2.result.now
       c.deref.ensures.0 c.from.ensures c.from-2.ensures (c.deref-2.ensures.value ∙ c.fill.ensures.bytes))
-      refl call.ensures.agrees call.ensures.step call.ensures.keeps call.ensures.wrong call.ensures.outcome noted
+      given call.ensures.agrees call.ensures.step call.ensures.keeps call.ensures.wrong call.ensures.outcome call.ensures.noted
       (sym c.if-is_refused.false ∙ c.is_refused.ensures)
       commits raises taken;
 }
