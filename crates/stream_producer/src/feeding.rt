@@ -1,5 +1,5 @@
 //! A piece of a stream that is played.
-ghost use Rattle.std.specs.Prelude.{ℕ, ◌+◌, ◌^◌, ◌<◌, List, ◌++◌, length, IfOk, OnOk, IfErr};
+ghost use Rattle.std.specs.Prelude.{◌≡◌, ℕ, ◌+◌, ◌^◌, ◌<◌, List, ◌++◌, length, IfOk, OnOk, IfErr};
 ghost use Rattle.config_text.specs.Configs.{ConfigOf};
 ghost use Rattle.byte_io.specs.Bytes.{Intake};
 ghost use Rattle.stream_frames.specs.Framing.{fed, by_front, front_of};
@@ -92,6 +92,8 @@ impl<W: Words> StreamCore<W, W::Service> {
         ensures trace { (config : ConfigOf) (stream : List ℕ) (start : Intake) → HasTaken W.means config stream self.old
             → IsTraceOf W.means config stream self.old start (O.taken out.old)
             → OnOk result (IsTraceOf W.means config (stream ++ piece.now) self.new start (O.taken out.new)) }
+        ensures counted { OnOk result ((feeding_of self.new.reader).at + length (feeding_of self.new.reader).have
+            ≡ (feeding_of self.old.reader).at + length (feeding_of self.old.reader).have + length piece.now) }
         ensures count { CountsWrites (O.faults out.old) (O.faults out.new) result }
         ensures goes_on { OnOk result (O.may_write out.new) }
     {

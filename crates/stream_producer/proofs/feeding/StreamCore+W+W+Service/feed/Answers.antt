@@ -1,5 +1,5 @@
 -- Frame by frame.
-use Rattle.std.proofs.Common.{◌≡◌, ◌∙◌, ℕ, ◌+◌, ◌^◌, ◌<◌, List, length, Err, refl, sym, subst, rules}
+use Rattle.std.proofs.Common.{◌≡◌, ◌∙◌, ℕ, ◌+◌, ◌^◌, ◌<◌, List, length, Err, refl, sym, subst, arith, rules}
 use Rattle.std.proofs.lemmas.List.{take_rest}
 use Rattle.stream_frames.specs.Framing.{fed}
 use Rattle.stream_frames.specs.Values.{limits_of, feeding_of}
@@ -90,3 +90,11 @@ returns-clause-trace g c config stream start was trace =
     c.loop-at.invariant.fed in
     trace_more g.W.Words.means config stream c.args.piece.now c.args.self.now c.loop-at.self before after c.requires.feeding was feeds start
     trace
+
+pub returns-clause-counted : goal.returns-clause-counted
+returns-clause-counted g c =
+    let fed = c.loop-at.invariant.fed in
+    let within = fed.within in
+    let counted = fed.counted in
+    let over = c.loop-at-test.false in
+    omega (arith, within, counted, over)
