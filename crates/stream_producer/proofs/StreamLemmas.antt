@@ -1,5 +1,6 @@
 -- The stream so far, in whatever pieces it came.
-use Rattle.std.proofs.Common.{◌≡◌, ℕ, List, ◌++◌, sym, ap, subst, ◌∙◌}
+use Rattle.std.proofs.Common.{◌≡◌, ℕ, ◌+◌, List, ◌++◌, length, sym, ap, subst, ◌∙◌}
+use Rattle.std.proofs.lemmas.List.{length-append}
 use Rattle.byte_io.specs.Bytes.{Intake, after_told}
 use Rattle.byte_io.proofs.Told.{after_told_again}
 use Rattle.trace_model.specs.Buffers.{Buffer}
@@ -68,8 +69,10 @@ module _ {T W S : Type 0} (means : Meaning T W S) (config : ConfigOf) (stream pi
   at_setup : (P : Setup → Type 0) → P (means.setup old.player.table) → P (means.setup new.player.table)
   at_setup P holds = subst P (sym feeds.plays.setup_stays) holds
 
-  pub taken_more : HasTaken means config (stream ++ piece) new
-  taken_more =
+  pub taken_more : (feeding_of new.reader).at + length (feeding_of new.reader).have
+      ≡ (feeding_of old.reader).at + length (feeding_of old.reader).have + length piece
+      → HasTaken means config (stream ++ piece) new
+  taken_more counted =
       let setup = means.setup old.player.table in
       let l = config_limits config in
       let more = (fed (limits_of old.reader) (feeding_of old.reader) piece).frames in
@@ -78,6 +81,7 @@ module _ {T W S : Type 0} (means : Meaning T W S) (config : ConfigOf) (stream pi
         limits = feeds.limits ∙ was.limits;
         first = at_setup (λ s. first_of s new.player.service ≡ config_buffers config s) (feeds.plays.first ∙ was.first);
         feeding = ap (λ (p : Progress). p.ends) whole ∙ feeds.ends;
+        counted = counted ∙ ap (λ (n : ℕ). n + length piece) was.counted ∙ sym (length-append stream piece);
         history = at_setup (λ s. history_of (view_of means new.player)
             ≡ played s l (config_buffers config s) (frames_of l (stream ++ piece)))
             (feeds.plays.history

@@ -1,5 +1,5 @@
 -- A whole stream that has no fault.
-use Rattle.std.proofs.Common.{◌≡◌, ◌∙◌, ℕ, List, [], ◌++◌, Ok, refl, sym, ap, subst}
+use Rattle.std.proofs.Common.{◌≡◌, ◌∙◌, ℕ, ◌+◌, List, [], ◌++◌, length, Ok, refl, sym, ap, subst}
 use Rattle.byte_io.specs.Bytes.{Intake, after_told, TakesPart}
 use Rattle.byte_io.proofs.Told.{after_told_again, after_told_nothing, part_first, part_second}
 use Rattle.trace_model.specs.Buffers.{Buffer}
@@ -47,6 +47,7 @@ made_taken means config core made =
       limits = made.limits;
       first = made.first;
       feeding = nothing_fed limits ∙ ap (λ (f : Feeding). Ok f) (sym made.feeding);
+      counted = ap (λ (f : Feeding). f.at + length f.have) made.feeding;
       history = made.history ∙ sym (ap (played setup limits first) none);
       commits = made.commits ∙ sym (ap (λ (frames : List Frame). raised 0 (commits_in frames)) none);
       refused = made.refused ∙ sym (ap (λ (frames : List Frame). raised 0 (refused_in setup limits first frames)) none);

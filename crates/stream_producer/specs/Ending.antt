@@ -71,6 +71,12 @@ StopsFinishing means core before after (BadFrame offset) = ⊥
 StopsFinishing means core before after (NoEnd offset) = ((feeding_of core.reader).closed ≡ false)
     × (offset ≡ (feeding_of core.reader).at + length (feeding_of core.reader).have) × (after ≡ before)
 
+-- where the stream has no close, the fault stands at its length
+abbrev pub IsAtLength : List ℕ → StreamFault → Type 0
+IsAtLength stream WriteFault = Unit {0}
+IsAtLength stream (BadFrame offset) = ⊥
+IsAtLength stream (NoEnd offset) = offset ≡ length stream
+
 -- The stream is played to its end: the sink has taken the records of its history and nothing else, and the counts are those of the buffers
 -- behind it.
 pub record FinishesStream {T W S : Type 0} (means : Meaning T W S) (config : ConfigOf) (stream : List ℕ) (core : StreamCore T S)

@@ -93,6 +93,7 @@ pub record HasTaken {T W S : Type 0} (means : Meaning T W S) (config : ConfigOf)
   pub limits : limits_of core.reader ≡ config_limits config
   pub first : first_of (means.setup core.player.table) core.player.service ≡ config_buffers config (means.setup core.player.table)
   pub feeding : (fed (config_limits config) beginning stream).ends ≡ Ok (feeding_of core.reader)
+  pub counted : (feeding_of core.reader).at + length (feeding_of core.reader).have ≡ length stream
   pub history : history_of (view_of means core.player)
       ≡ played (means.setup core.player.table) (config_limits config) (config_buffers config (means.setup core.player.table))
       (frames_of (config_limits config) stream)

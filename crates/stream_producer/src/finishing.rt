@@ -14,7 +14,7 @@ where
     W::Service: Drop,
 {
     ghost use Rattle.stream_producer.specs.Feeding.{IsFeeding, HasTaken, IsTraceOf};
-    ghost use Rattle.stream_producer.specs.Ending.{Finishes, StopsFinishing, FinishesStream};
+    ghost use Rattle.stream_producer.specs.Ending.{Finishes, StopsFinishing, FinishesStream, IsAtLength};
 
     /// Finishes a stream that is closed: all its sequences are closed, all buffers read, and what became of
     /// chunks, packets and commits is answered.
@@ -28,6 +28,7 @@ where
         ensures stream { (config : ConfigOf) (stream : List ℕ) (start : Intake) → HasTaken W.means config stream self
             → IsTraceOf W.means config stream self start (O.taken out.old)
             → IfOk result (λ done. FinishesStream W.means config stream self start (O.taken out.new) done) }
+        ensures no_end { (config : ConfigOf) (stream : List ℕ) → HasTaken W.means config stream self → IfErr result (IsAtLength stream) }
         ensures count { CountsWrites (O.faults out.old) (O.faults out.new) result }
         ensures goes_on { OnOk result (O.may_write out.new) }
     {

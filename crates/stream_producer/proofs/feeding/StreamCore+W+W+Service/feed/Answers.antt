@@ -80,7 +80,12 @@ returns-clause-stream g c config stream was =
     let after = g.O.Sink.taken c.loop-at.out in
     let feeds = fed_done g.W.Words.means c.args.piece.now c.args.self.now before c.loop-at.at c.loop-at.self after c.loop-at-test.false
     c.loop-at.invariant.fed in
+    let fed = c.loop-at.invariant.fed in
+    let within = fed.within in
+    let counted = fed.counted in
+    let over = c.loop-at-test.false in
     taken_more g.W.Words.means config stream c.args.piece.now c.args.self.now c.loop-at.self before after c.requires.feeding was feeds
+    (omega (arith, within, counted, over))
 
 pub returns-clause-trace : goal.returns-clause-trace
 returns-clause-trace g c config stream start was trace =
