@@ -26,3 +26,9 @@ CountsFault old new (NoEnd offset) = new ≡ old
 abbrev pub CountsWrites : {T : Type 0} → ℕ → ℕ → Result T StreamFault → Type 0
 CountsWrites old new (Ok done) = new ≡ old
 CountsWrites old new (Err fault) = CountsFault old new fault
+
+-- something holds unless a write failed
+abbrev pub UnlessFailed : Type 0 → StreamFault → Type 0
+UnlessFailed Holds WriteFault = Unit {0}
+UnlessFailed Holds (BadFrame offset) = Holds
+UnlessFailed Holds (NoEnd offset) = Holds

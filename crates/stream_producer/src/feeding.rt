@@ -4,7 +4,7 @@ ghost use Rattle.config_text.specs.Configs.{ConfigOf};
 ghost use Rattle.byte_io.specs.Bytes.{Intake};
 ghost use Rattle.stream_frames.specs.Framing.{fed, by_front, front_of};
 ghost use Rattle.stream_frames.specs.Values.{limits_of, feeding_of};
-ghost use Rattle.stream_producer.specs.Faults.{CountsWrites};
+ghost use Rattle.stream_producer.specs.Faults.{CountsWrites, UnlessFailed};
 
 use crate::fault::StreamFault;
 use crate::producer::StreamCore;
@@ -29,6 +29,7 @@ impl<W: Words> StreamCore<W, W::Service> {
             self.old self.new (O.taken out.old) (O.taken out.new)) }
         ensures count { CountsWrites (O.faults out.old) (O.faults out.new) result }
         ensures goes_on { OnOk result (O.may_write out.new) }
+        ensures goes_on_behind { IfErr result (UnlessFailed (O.may_write out.new)) }
     {
         match self.reader.front() {
             Front::Short => Ok(()),
@@ -56,6 +57,7 @@ impl<W: Words> StreamCore<W, W::Service> {
             self.old self.new (O.taken out.old) (O.taken out.new)) }
         ensures count { CountsWrites (O.faults out.old) (O.faults out.new) result }
         ensures goes_on { OnOk result (O.may_write out.new) }
+        ensures goes_on_behind { IfErr result (UnlessFailed (O.may_write out.new)) }
     {
         if self.reader.is_closed() {
             let offset = self.reader.offset();
@@ -96,6 +98,7 @@ impl<W: Words> StreamCore<W, W::Service> {
             ≡ (feeding_of self.old.reader).at + length (feeding_of self.old.reader).have + length piece.now) }
         ensures count { CountsWrites (O.faults out.old) (O.faults out.new) result }
         ensures goes_on { OnOk result (O.may_write out.new) }
+        ensures goes_on_behind { IfErr result (UnlessFailed (O.may_write out.new)) }
     {
         let mut at = 0;
         while at < piece.len() {

@@ -2,7 +2,7 @@
 ghost use Rattle.std.specs.Prelude.{List, ℕ, IfOk, IfErr, OnOk};
 ghost use Rattle.config_text.specs.Configs.{ConfigOf};
 ghost use Rattle.byte_io.specs.Bytes.{Intake};
-ghost use Rattle.stream_producer.specs.Faults.{CountsWrites};
+ghost use Rattle.stream_producer.specs.Faults.{CountsWrites, UnlessFailed};
 
 use crate::fault::StreamFault;
 use crate::producer::{StreamCore, StreamDone};
@@ -31,6 +31,7 @@ where
         ensures no_end { (config : ConfigOf) (stream : List ℕ) → HasTaken W.means config stream self → IfErr result (IsAtLength stream) }
         ensures count { CountsWrites (O.faults out.old) (O.faults out.new) result }
         ensures goes_on { OnOk result (O.may_write out.new) }
+        ensures goes_on_behind { IfErr result (UnlessFailed (O.may_write out.new)) }
     {
         let StreamCore {
             reader,

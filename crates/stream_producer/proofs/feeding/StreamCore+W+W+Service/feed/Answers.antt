@@ -61,6 +61,12 @@ returns-in_err-at-clause-stops g c =
     found)
     (take_rest piece c.loop-at.at) c.in_err-at.ensures.stops))
 
+pub returns-in_err-at-clause-goes_on_behind : goal.returns-in_err-at-clause-goes_on_behind
+returns-in_err-at-clause-goes_on_behind g c =
+    let found = c.in_err-at.field-0.0 in
+    let result_is : c.from_residual.result ≡ Err found = search rules in
+    if_err_is c.from_residual.result found _ result_is c.in_err-at.ensures.goes_on_behind
+
 pub returns-in_err-at-clause-count : goal.returns-in_err-at-clause-count
 returns-in_err-at-clause-count g c =
     let found = c.in_err-at.field-0.0 in

@@ -85,3 +85,10 @@ returns-in-Whole-clause-feeds g c =
     place_fed means piece old c.requires.feeding c.requires.length (sym c.is_closed.ensures ∙ c.if-is_closed.false) none frame size whole
     (record { reader = c.pass.new.self; player = c.play.new.self; done = old.done }) before after plays c.pass.ensures.limits refl next
     c.pass.ensures.reading
+
+pub returns-in_err-play_front-clause-goes_on_behind : goal.returns-in_err-play_front-clause-goes_on_behind
+returns-in_err-play_front-clause-goes_on_behind g c =
+    let found = c.in_err-play_front.field-0.0 in
+    let answer = c.from_residual-in_err-play_front.result in
+    let result_is : answer ≡ Err found = search rules in
+    if_err_is answer found _ result_is c.in_err-play_front.ensures.goes_on_behind

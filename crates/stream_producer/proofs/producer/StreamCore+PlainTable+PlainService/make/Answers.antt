@@ -125,6 +125,7 @@ returns c =
         table = table;
         service = service;
         payload = c.in_ok-with_capacity.field-0;
+        patches = c.new.result;
         commits = 0;
         refused = 0;
         room = room;
