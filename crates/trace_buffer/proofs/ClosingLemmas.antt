@@ -1,11 +1,9 @@
 -- Going over the records of a sequence as it is closed.
-use Rattle.std.proofs.Common.{◌≡◌, ℕ, ◌+◌, ◌<◌, ◌^◌, min, ◌==◌, ◌&&◌, nat_lt, ◌⊎◌, ⊎_elim, inl, inr, Bool, true, false, cond, List, [], ◌∷◌, map, filter, count_by, refl, sym, ap, ap₂, ◌∙◌, subst, arith}
+use Rattle.std.proofs.Common.{◌≡◌, ℕ, ◌<◌, ◌==◌, ◌&&◌, nat_lt, ◌⊎◌, ⊎_elim, inl, inr, Bool, true, false, cond, List, [], ◌∷◌, map, filter, refl, sym, ap, ap₂, ◌∙◌, subst, arith}
 use Rattle.std.proofs.lemmas.Bool.Decides.{nat_tests}
-use Rattle.std.proofs.lemmas.List.Sums.{sum_by-cons}
 use Rattle.ring_bytes.specs.declared.key.RecordKey.{RecordKey}
 use Rattle.ring_bytes.specs.Value.{Stored}
 use Rattle.trace_model.specs.Buffers.{BufferRecord}
-use Rattle.trace_model.specs.Counts.{raised}
 use Rattle.trace_model.specs.Arrivals.{is_too_far}
 use Rattle.trace_model.specs.Patches.{closed_sequence}
 use Rattle.trace_model.specs.Sequences.{Sequence, with_number, rising, sequence_in, has_arrived}
@@ -13,7 +11,9 @@ use Rattle.trace_buffer.specs.BufferFields.{AllKept}
 use Rattle.trace_buffer.proofs.PartLemmas.{KeepsRow}
 use Rattle.trace_buffer.specs.Closing.{parts_of, finals_of, final_with, PartsAreNear, IsStillNear}
 use Rattle.trace_buffer.specs.Records.{record_of}
+use Rattle.trace_buffer.specs.Unfinished.{parts_in}
 use Rattle.trace_buffer.proofs.CircleLemmas.{front, again, over}
+use Rattle.trace_buffer.proofs.UnfinishedLemmas.{no_parts}
 
 -- Numbers put in, in any order
 
@@ -81,21 +81,24 @@ filled_rising (n ∷ ns) = ap (with_number n) (filled_rising ns)
 -- The loop
 
 -- with what is left of the records all comes to what it comes to with all
-pub record IsMarked (old : Sequence) (first : ℕ) (all : List Stored) (row : Sequence) (count : ℕ) (rest : List Stored) : Type 0 where
+pub record IsMarked (old : Sequence) (all : List Stored) (row : Sequence) (rest : List Stored) : Type 0 where
   pub same : row ≡ record old { final = row.final }
   pub near : PartsAreNear old rest
   pub ids : filled (parts_of old.number (map record_of rest)) row.final ≡ finals_of old.number (map record_of all)
-  pub low : count < 2 ^ 64
-  pub awaits : raised count (count_by (λ (r : BufferRecord). (r.sequence == old.number) && r.chunk.awaits) (map record_of rest))
-      ≡ raised first (count_by (λ (r : BufferRecord). (r.sequence == old.number) && r.chunk.awaits) (map record_of all))
 
-pub begun : (row : Sequence) (first : ℕ) (all : List Stored) → first < 2 ^ 64 → PartsAreNear row all → row.final ≡ [] → IsMarked row first all row first all
-begun row first all low near none = record {
+pub begun : (row : Sequence) (all : List Stored) → PartsAreNear row all → row.final ≡ [] → IsMarked row all row all
+begun row all near none = record {
   same = refl;
   near = near;
   ids = ap (filled (parts_of row.number (map record_of all))) none ∙ filled_rising (parts_of row.number (map record_of all));
-  low = low;
-  awaits = refl;
+}
+
+-- where no record is a part of a chunk, nothing is left
+pub none_to_mark : (old : Sequence) (all : List Stored) (row : Sequence) (rest : List Stored) → parts_in rest ≡ 0 → IsMarked old all row rest → IsMarked old all row []
+none_to_mark old all row rest none m = record {
+  same = m.same;
+  near = tt;
+  ids = ap (λ ids. filled ids row.final) (sym (no_parts old.number rest none)) ∙ m.ids;
 }
 
 part_first : (number : ℕ) (s : Stored) (rest : List Stored) (into : List ℕ) → filled (parts_of number (map record_of (s ∷ rest))) into ≡ filled (parts_of number (map record_of rest)) (final_with number s.key into)
@@ -105,37 +108,24 @@ part_first number s rest into = of ((s.key.sequence == number) && s.key.partial)
     of true = filled_first s.key.chunk_id (parts_of number (map record_of rest)) into
     of false = refl
 
-pub still_marked : (old : Sequence) (first : ℕ) (all : List Stored) (row new : Sequence) (count one then : ℕ) (s : Stored) (key : RecordKey) (rest : List Stored) → IsMarked old first all row count (s ∷ rest) → key ≡ s.key → new ≡ record row { final = final_with row.number key row.final } → one ≡ cond ((key.sequence == new.number) && key.awaits) 1 0 → then ≡ min (count + one) 18446744073709551615 → IsMarked old first all new then rest
-still_marked old first all row new count one then s key rest m key_is new_is one_is then_is =
+pub still_marked : (old : Sequence) (all : List Stored) (row new : Sequence) (s : Stored) (key : RecordKey) (rest : List Stored) → IsMarked old all row (s ∷ rest) → key ≡ s.key → new ≡ record row { final = final_with row.number key row.final } → IsMarked old all new rest
+still_marked old all row new s key rest m key_is new_is =
     let number_is : row.number ≡ old.number = ap (λ (t : Sequence). t.number) m.same in
     let final_is : new.final ≡ final_with old.number s.key row.final =
     ap (λ (t : Sequence). t.final) new_is ∙ ap₂ (λ n (k : RecordKey). final_with n k row.final) number_is key_is in
-    let new_number : new.number ≡ old.number = ap (λ (t : Sequence). t.number) new_is ∙ number_is in
-    let one_here : one ≡ cond ((s.key.sequence == old.number) && s.key.awaits) 1 0 =
-    one_is ∙ ap₂ (λ n (k : RecordKey). cond ((k.sequence == n) && k.awaits) 1 0) new_number key_is in
     record {
       same = new_is ∙ ap (λ (t : Sequence). record t { final = final_with row.number key row.final }) m.same
           ∙ ap (λ ids. record old { final = ids }) (sym (ap (λ (t : Sequence). t.final) new_is));
       near = m.near.1;
       ids = ap (filled (parts_of old.number (map record_of rest))) final_is
           ∙ sym (part_first old.number s rest row.final) ∙ m.ids;
-      low = omega (arith, then_is);
-      awaits = counted count one then (count_by (λ (r : BufferRecord). (r.sequence == old.number) && r.chunk.awaits) (map record_of rest)) _
-          m.low then_is (sum_by-cons (λ (r : BufferRecord). cond ((r.sequence == old.number) && r.chunk.awaits) 1 0) (record_of s) (map record_of rest) ∙ ap (λ n. n + count_by (λ (r : BufferRecord). (r.sequence == old.number) && r.chunk.awaits) (map record_of rest)) (sym one_here))
-          ∙ m.awaits;
     }
-  where
-    counted : (count one then more both : ℕ) → count < 2 ^ 64 → then ≡ min (count + one) 18446744073709551615 → both ≡ one + more → raised then more ≡ raised count both
-    counted count one then more both low then_is is = omega (arith, then_is, is)
 
-pub ended_row : (old : Sequence) (first : ℕ) (all : List Stored) (row : Sequence) (count : ℕ) → IsMarked old first all row count [] → row ≡ record old { final = finals_of old.number (map record_of all) }
+pub ended_row : (old : Sequence) (all : List Stored) (row : Sequence) → IsMarked old all row [] → row ≡ record old { final = finals_of old.number (map record_of all) }
 unfolding filled
-ended_row old first all row count m =
+ended_row old all row m =
     let ids : row.final ≡ finals_of old.number (map record_of all) = m.ids in
     m.same ∙ ap (λ ids. record old { final = ids }) ids
-
-pub ended_count : (old : Sequence) (first : ℕ) (all : List Stored) (row : Sequence) (count : ℕ) → IsMarked old first all row count [] → count ≡ raised first (count_by (λ (r : BufferRecord). (r.sequence == old.number) && r.chunk.awaits) (map record_of all))
-ended_count old first all row count m = (let low = m.low in omega arith) ∙ m.awaits
 
 pub near_here : (old row : Sequence) (key other : RecordKey) → row ≡ record old { final = row.final } → key ≡ other → IsStillNear old other → IsStillNear row key
 near_here old row key other same key_is near =

@@ -25,4 +25,5 @@ pub mod PutLemmas
 pub mod PatchedLemmas
 pub mod EndLemmas
 pub mod ReadyLemmas
+pub mod CountLemmas
 pub mod UnfinishedLemmas

@@ -11,8 +11,8 @@ use Rattle.trace_model.specs.Arrivals.{is_too_far}
 use Rattle.trace_model.specs.Buffers.{Buffer, BufferRecord, is_of}
 use Rattle.trace_model.specs.Reading.{reading_of, is_readable}
 use Rattle.trace_model.specs.Sequences.{Sequence, is_known, sequence_in, has_arrived}
-use Rattle.trace_buffer.specs.Closing.{unfinished_of}
 use Rattle.trace_buffer.specs.Records.{record_of, is_at_key}
+use Rattle.trace_buffer.specs.Unfinished.{unfinished_of}
 use Rattle.trace_buffer.specs.declared.buffer.TraceBuffer.TheInside.{Inside}
 
 -- a buffer as one of the model
@@ -107,4 +107,4 @@ pub record AreParts (ring : RingValue) (index : IndexValue) (rows : List Sequenc
 -- the fields of a buffer hold together
 pub record IsBuffer (a : Inside) : Type 0 where
   pub parts : AreParts a.ring a.index a.rows.items
-  pub counted : a.unfinished ≡ unfinished_of a.ring.live
+  pub counted : a.unfinished ≡ unfinished_of a.rows.items a.ring.live

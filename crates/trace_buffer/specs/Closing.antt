@@ -1,18 +1,10 @@
 -- What a sequence keeps of its records as it is closed.
-use Rattle.std.specs.Prelude.{◌≡◌, ℕ, Bool, ◌==◌, ◌&&◌, ◌||◌, true, false, List, [], ◌∷◌, map, filter, count_by, if◌then◌else◌}
+use Rattle.std.specs.Prelude.{◌≡◌, ℕ, ◌==◌, ◌&&◌, true, false, List, [], ◌∷◌, map, filter, if◌then◌else◌}
 use Rattle.ring_bytes.specs.declared.key.RecordKey.{RecordKey}
 use Rattle.ring_bytes.specs.Value.{Stored}
 use Rattle.trace_model.specs.Arrivals.{is_too_far}
 use Rattle.trace_model.specs.Buffers.{BufferRecord}
 use Rattle.trace_model.specs.Sequences.{Sequence, has_arrived, rising, with_number}
-
--- a close has to see the record: it is a part of a chunk, or awaits a patch
-abbrev pub is_unfinished : RecordKey → Bool
-is_unfinished key = key.partial || key.awaits
-
--- how many such records there are
-abbrev pub unfinished_of : List Stored → ℕ
-unfinished_of live = count_by (λ (stored : Stored). is_unfinished stored.key) live
 
 -- the positions of the sequence of which a part is there
 abbrev pub parts_of : ℕ → List BufferRecord → List ℕ

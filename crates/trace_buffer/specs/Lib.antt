@@ -10,3 +10,4 @@ pub mod Patching
 pub mod Records
 pub mod RowFields
 pub mod Ready
+pub mod Unfinished

@@ -2,33 +2,30 @@
 ghost use Rattle.std.specs.Prelude.{◌≡◌, ℕ, ◌+◌, ◌*◌, ◌%◌, ◌^◌, ◌<◌, ◌≤◌, ◌&&◌, true, false, List, length, map, find, is_some, IfOk, IfSome, IfNone, None};
 ghost use Rattle.page_geometry.specs.Sizes.{record_size};
 ghost use Rattle.trace_model.specs.Buffers.{empty_buffer, live_at, made_room, meets};
-ghost use Rattle.trace_model.specs.Sequences.{is_known, sequence_in, changed_at, has_arrived, is_among, base_of};
+ghost use Rattle.trace_model.specs.Sequences.{is_known, sequence_in, has_arrived};
 ghost use Rattle.trace_model.specs.Arrivals as model;
-ghost use Rattle.trace_model.specs.Arrivals.{arrival_noted, makes_arrive, with_record, with_rewritten, settled, placing_of, arrival_of, partial_arrival_of, is_refused, is_too_far, image_arrival_of, partial_image_arrival_of, with_image, with_partial_image, with_arrived};
+ghost use Rattle.trace_model.specs.Arrivals.{arrival_noted, makes_arrive, with_record, with_rewritten, settled, placing_of, arrival_of, partial_arrival_of, is_refused, is_too_far, image_arrival_of, partial_image_arrival_of, with_image, with_partial_image};
 ghost use Rattle.trace_model.specs.Patches.{patch_answer, with_patch, with_close};
 ghost use Rattle.trace_model.specs.Reading.{reading_of, is_readable};
-ghost use Rattle.trace_model.specs.Row.{horizon};
 ghost use Rattle.chunk_image.specs.Values.{image_value};
 ghost use Rattle.commit_body.specs.Patches.{patch_value};
-ghost use Rattle.trace_buffer.specs.Answers.{arrived_value, patch_told, counts_of, state_of, cursor_value, turn_value};
+ghost use Rattle.trace_buffer.specs.Answers.{arrived_value, patch_told, cursor_value, turn_value};
 ghost use Rattle.trace_buffer.specs.Records.{chunk_of};
 ghost use Rattle.trace_buffer.specs.Made.{sequence_of, AreDistinct, AllSmall};
-ghost use Rattle.trace_buffer.specs.Calls.{with_advance, is_lost, place_in, IsImageOf};
+ghost use Rattle.trace_buffer.specs.Calls.{with_advance, place_in, IsImageOf};
 ghost use Rattle.trace_buffer.specs.BufferFields.{NoPart, IsPartNear};
 
 mod copying;
 mod doors;
+mod state;
 
-use crate::answers::{
-    Arrived, BufferCounts, BufferSpec, Cursor, Passed, PatchFault, SequenceSpec, SequenceState,
-};
-use crate::closing::{mark_parts, unfinished_in};
+use crate::answers::{Arrived, BufferSpec, Cursor, Passed, PatchFault, SequenceSpec};
+use crate::closing::mark_parts;
 use crate::patching::last_holds;
 use crate::room::{find_place, make_room, meets_unread};
 use crate::row::SequenceRow;
-use crate::rows::{
-    advance, find_row, has_row, least_size, make_rows, note_arrived, note_discarded,
-};
+use crate::rows::{advance, find_row, least_size, make_rows, note_arrived, note_discarded};
+use crate::unfinished::Unfinished;
 use chunk_image::{Image, ImageFault};
 use chunk_index::Index;
 use commit_body::Patch;
@@ -45,8 +42,8 @@ pub struct TraceBuffer {
     ring: Ring,
     /// Where the live records lie.
     index: Index,
-    /// How many of the live records are parts of chunks or await a patch: what a close looks for.
-    unfinished: u32,
+    /// How many of the live records a close has to see.
+    unfinished: Unfinished,
     policy: FullPolicy,
     /// A record was refused by the discard policy.
     shut: bool,
@@ -89,10 +86,11 @@ impl TraceBuffer {
         let least = least_size(sequences, spec.size);
         let index = Index::make(alloc, spec.size / least)?;
         let rows = make_rows(alloc, sequences)?;
+        let unfinished = Unfinished::make(alloc, &rows)?;
         Ok(TraceBuffer {
             ring,
             index,
-            unfinished: 0,
+            unfinished,
             policy: spec.policy,
             shut: false,
             placed: 0,
@@ -176,6 +174,8 @@ impl TraceBuffer {
         ) else {
             return Err(PatchFault::NoChunk);
         };
+        // The ring has bytes for few records, so that the counts of them fit.
+        let _few = self.ring.place_next(0);
         let key = self.ring.key_at(place);
         if !key.awaits {
             return Err(PatchFault::NoChunk);
@@ -189,7 +189,8 @@ impl TraceBuffer {
             awaits: !patch.last,
             ..key
         };
-        self.unfinished = self.unfinished - 1 + unfinished_in(after);
+        self.unfinished.take(&self.rows, key);
+        self.unfinished.add(&self.rows, after);
         Ok(())
     }
 
@@ -202,64 +203,9 @@ impl TraceBuffer {
         let i = find_row(&self.rows, sequence);
         let row = &mut self.rows[i];
         row.close();
-        self.unpatched = mark_parts(&self.ring, row, self.unfinished, self.unpatched);
-    }
-
-    /// Whether the sequence is one of the buffer's.
-    pub fn knows(&self, sequence: u32) -> bool
-        ensures { result ≡ is_known self.now.sequences sequence }
-    {
-        has_row(&self.rows, sequence)
-    }
-
-    /// The size of each record of the sequence.
-    pub fn record_size(&self, sequence: u32) -> u32
-        requires { is_known self.now.sequences sequence ≡ true }
-        ensures { result ≡ (sequence_in self.now.sequences sequence).size }
-    {
-        self.rows[find_row(&self.rows, sequence)].size()
-    }
-
-    pub fn state(&self, sequence: u32) -> SequenceState
-        requires { is_known self.now.sequences sequence ≡ true }
-        ensures { result ≡ state_of self.now.policy (sequence_in self.now.sequences sequence) }
-    {
-        self.rows[find_row(&self.rows, sequence)].state(self.policy)
-    }
-
-    pub fn counts(&self) -> BufferCounts
-        ensures { result ≡ counts_of self.now }
-    {
-        BufferCounts {
-            policy: self.policy,
-            bytes: u64::from(self.ring.size()),
-            placed: self.placed,
-            rewritten: self.rewritten,
-            overwritten: self.overwritten,
-            discarded: self.discarded,
-            unpatched: self.unpatched,
-            padding: self.padding,
-        }
-    }
-
-    /// Whether all that there was of a chunk is gone: it arrived complete, or a part of it was there
-    /// when its sequence was closed, and it has no record any more.
-    pub fn lost(&self, sequence: u32, chunk_id: u64) -> bool
-        requires { is_known self.now.sequences sequence ≡ true }
-        ensures { result ≡ is_lost self.now sequence chunk_id }
-    {
-        let row = &self.rows[find_row(&self.rows, sequence)];
-        self.image_of(sequence, chunk_id).is_none()
-            && (row.has_arrived(chunk_id) || row.is_final(chunk_id))
-    }
-
-    /// One above the last chunk that a reader of the sequence can meet.
-    pub fn horizon(&self, sequence: u32) -> u64
-        requires { is_known self.now.sequences sequence ≡ true }
-        ensures is { result ≡ horizon (sequence_in self.now.sequences sequence) }
-        ensures low { result ≤ 2 ^ 33 }
-    {
-        self.rows[find_row(&self.rows, sequence)].horizon()
+        mark_parts(&self.ring, row, self.unfinished.parts());
+        let awaiting = self.unfinished.awaiting_at(i);
+        self.unpatched = self.unpatched.saturating_add(u64::from(awaiting));
     }
 
     /// What the record of a chunk has, with its payload as it stands in the ring.
@@ -472,7 +418,7 @@ impl TraceBuffer {
         let padding = self.ring.place_next(size).padding;
         let at = self.ring.write(key, payload);
         self.index.add(key.sequence, key.chunk_id, at);
-        self.unfinished += unfinished_in(key);
+        self.unfinished.add(&self.rows, key);
         self.placed = self.placed.saturating_add(1);
         self.padding = self.padding.saturating_add(u64::from(padding));
     }
@@ -496,12 +442,13 @@ impl TraceBuffer {
         ) else {
             return;
         };
-        // The ring has bytes for few records, so that the count of them fits.
+        // The ring has bytes for few records, so that the counts of them fit.
         let _room = self.ring.size();
         let _few = self.ring.place_next(0);
         let before = self.ring.key_at(place);
         self.ring.rewrite(place, key, payload);
-        self.unfinished = self.unfinished - unfinished_in(before) + unfinished_in(key);
+        self.unfinished.take(&self.rows, before);
+        self.unfinished.add(&self.rows, key);
         self.rewritten = self.rewritten.saturating_add(1);
     }
 

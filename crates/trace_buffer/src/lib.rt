@@ -13,6 +13,7 @@ mod patching;
 mod room;
 mod row;
 mod rows;
+mod unfinished;
 
 pub use answers::{
     Arrived, BufferCounts, BufferSpec, Cursor, Passed, PatchFault, SequenceSpec, SequenceState,

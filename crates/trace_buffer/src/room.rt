@@ -7,11 +7,11 @@ ghost use Rattle.trace_model.specs.Counts.{raised};
 ghost use Rattle.trace_model.specs.Buffers.{BufferRecord, is_unread, with_losses};
 ghost use Rattle.trace_buffer.specs.Records.{record_of, is_at_key, meets_record, met_records, displaced, unread_losses};
 ghost use Rattle.trace_buffer.specs.BufferFields.{AreParts};
-ghost use Rattle.trace_buffer.specs.Closing.{unfinished_of};
+ghost use Rattle.trace_buffer.specs.Unfinished.{unfinished_of};
 
-use crate::closing::unfinished_in;
 use crate::row::SequenceRow;
 use crate::rows::{find_row, note_loss};
+use crate::unfinished::Unfinished;
 use chunk_index::Index;
 use ring_bytes::Ring;
 
@@ -38,16 +38,16 @@ pub fn make_room(
     ring: &mut Ring,
     index: &mut Index,
     rows: &mut [SequenceRow],
-    unfinished: &mut u32,
+    unfinished: &mut Unfinished,
     len: u32,
     overwritten: u64,
 ) -> u64
     requires len { len ≤ ring.old.room }
     requires parts { AreParts ring.old index.old rows.old }
-    requires counted { unfinished.old ≡ unfinished_of ring.old.live }
+    requires counted { unfinished.old ≡ unfinished_of rows.old ring.old.live }
     ensures ring { ring.new ≡ displaced ring.old len }
     ensures parts { AreParts ring.new index.new rows.new }
-    ensures counted { unfinished.new ≡ unfinished_of ring.new.live }
+    ensures counted { unfinished.new ≡ unfinished_of rows.new ring.new.live }
     ensures rows { rows.new ≡ map (with_losses (met_records ring.old len)) rows.old }
     ensures lost { result ≡ raised overwritten (sum_by (unread_losses rows.old) (met_records ring.old len)) }
 {
@@ -57,8 +57,8 @@ pub fn make_room(
             None => return lost,
             Some(place) => {
                 let key = ring.key_at(place);
+                unfinished.take(rows, key);
                 lost = lost.saturating_add(note_loss(rows, key));
-                *unfinished -= unfinished_in(key);
                 ring.drop_at(place);
                 index.remove(key.sequence, key.chunk_id);
             }

@@ -92,3 +92,26 @@ fn a_patch_to_a_chunk_that_is_gone_is_refused(rt: HostRuntime) -> Result<(), Fai
     ];
     play(&rt, rt.alloc(), RING, &steps)
 }
+
+/// Two chunks of the first sequence await patches, one of which took the place of a part of it, and one
+/// of the second, since the other one's last patch has come. Each close counts those of its sequence.
+#[test]
+fn a_close_counts_what_awaits_a_patch_of_its_sequence(rt: HostRuntime) -> Result<(), Fail> {
+    let steps = [
+        Part(0, 1, Arrived::Kept),
+        Arrive(0, 2, 4, Arrived::Rewritten),
+        Arrive(1, 2, 4, Arrived::Kept),
+        OfSecond,
+        Arrive(0, 2, 4, Arrived::Kept),
+        Arrive(1, 2, 4, Arrived::Kept),
+        Patch(0, 6, true, Ok(())),
+        Patch(1, 6, false, Ok(())),
+        OfFirst,
+        Close,
+        Counts([4, 1, 0, 0, 2, 0]),
+        OfSecond,
+        Close,
+        Counts([4, 1, 0, 0, 3, 0]),
+    ];
+    play(&rt, rt.alloc(), RING, &steps)
+}

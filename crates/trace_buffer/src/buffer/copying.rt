@@ -18,7 +18,7 @@ impl TraceBuffer {
         self.ring.copy_from(&other.ring);
         self.index.copy_from(&other.index);
         copy_rows(&mut self.rows, &other.rows);
-        self.unfinished = other.unfinished;
+        self.unfinished.copy_from(&other.unfinished);
         self.policy = other.policy;
         self.shut = other.shut;
         self.placed = other.placed;

@@ -3,35 +3,27 @@ use Rattle.ring_bytes.specs.Value.{Stored, RingValue}
 use Rattle.ring_bytes.specs.Walked.{IsAlone, behind}
 use Rattle.ring_bytes.proofs.ListLemmas.{only_found}
 use Rattle.ring_bytes.proofs.LiveLemmas.{alone_found}
-use Rattle.trace_buffer.proofs.ClosingLemmas.{IsMarked, begun, still_marked, ended_row, ended_count, near_here}
+use Rattle.trace_buffer.proofs.ClosingLemmas.{IsMarked, begun, none_to_mark, still_marked, ended_row, near_here}
 use Rattle.trace_buffer.proofs.FindLemmas.{mapped}
-use Rattle.trace_buffer.proofs.UnfinishedLemmas.{none_to_mark}
 use Rattle.trace_buffer.proofs.WalkLemmas.{left, left_here, all_left, left_next, left_none}
 use Rattle.trace_buffer.proofs.closing.mark_parts.Goals as goal
 
 its_alone : (ring : RingValue) (place : ℕ) (next : Option ℕ) → next ≡ Some place → IfSome next (IsAlone ring) → IsAlone ring place
 its_alone ring place next is alone = subst (λ o. IfSome o (IsAlone ring)) is alone
 
-pub returns-then-unfinished-eq0-clause-row : goal.returns-then-unfinished-eq0-clause-row
-returns-then-unfinished-eq0-clause-row c =
+pub returns-then-parts-eq0 : goal.returns-then-parts-eq0
+returns-then-parts-eq0 c =
     let live : List Stored = c.args.ring.now.live in
-    ended_row c.args.row.now c.args.unpatched live c.args.row.now c.args.unpatched
-    (none_to_mark c.args.row.now c.args.unpatched live c.args.row.now c.args.unpatched live (sym c.requires.counted ∙ c.if-unfinished-eq0.true)
-    (begun c.args.row.now c.args.unpatched live (omega arith) c.requires.near c.requires.none))
-
-pub returns-then-unfinished-eq0-clause-unpatched : goal.returns-then-unfinished-eq0-clause-unpatched
-returns-then-unfinished-eq0-clause-unpatched c =
-    let live : List Stored = c.args.ring.now.live in
-    ended_count c.args.row.now c.args.unpatched live c.args.row.now c.args.unpatched
-    (none_to_mark c.args.row.now c.args.unpatched live c.args.row.now c.args.unpatched live (sym c.requires.counted ∙ c.if-unfinished-eq0.true)
-    (begun c.args.row.now c.args.unpatched live (omega arith) c.requires.near c.requires.none))
+    ended_row c.args.row.now live c.args.row.now
+    (none_to_mark c.args.row.now live c.args.row.now live (sym c.requires.counted ∙ c.if-parts-eq0.true)
+    (begun c.args.row.now live c.requires.near c.requires.none))
 
 pub loop-next-init : goal.loop-next-init
 loop-next-init c =
     let live : List Stored = c.args.ring.now.live in
     record {
-      marked = subst (IsMarked c.args.row.now c.args.unpatched live c.args.row.now c.args.unpatched) (sym (all_left c.live_behind-next.result live c.live_behind-next.ensures.next))
-          (begun c.args.row.now c.args.unpatched live (omega arith) c.requires.near c.requires.none);
+      marked = subst (IsMarked c.args.row.now live c.args.row.now) (sym (all_left c.live_behind-next.result live c.live_behind-next.ensures.next))
+          (begun c.args.row.now live c.requires.near c.requires.none);
       alone = c.live_behind-next.ensures.alone;
     }
 
@@ -45,7 +37,7 @@ mark_part-requires-clause-near c =
     let alone = its_alone ring c.in-Some.place c.loop-next.next c.in-Some.is c.loop-next.invariant.alone in
     let there = only_found c.in-Some.place ring.live alone.stored alone.alone in
     let key = mapped (λ (s : Stored). s.key) _ alone.stored c.key_at-key.result there c.key_at-key.ensures in
-    let marked = subst (IsMarked c.args.row.now c.args.unpatched ring.live c.loop-next.row c.loop-next.unpatched)
+    let marked = subst (IsMarked c.args.row.now ring.live c.loop-next.row)
     (ap (λ o. left o ring.live) c.in-Some.is ∙ left_here c.in-Some.place ring.live alone.stored there) c.loop-next.invariant.marked in
     near_here c.args.row.now c.loop-next.row c.key_at-key.result alone.stored.key marked.same key marked.near.0
 
@@ -68,22 +60,17 @@ loop-next-preserved c =
     let alone = its_alone ring c.in-Some.place c.loop-next.next c.in-Some.is c.loop-next.invariant.alone in
     let there = only_found c.in-Some.place ring.live alone.stored alone.alone in
     let key = mapped (λ (s : Stored). s.key) _ alone.stored c.key_at-key.result there c.key_at-key.ensures in
-    let marked = subst (IsMarked c.args.row.now c.args.unpatched ring.live c.loop-next.row c.loop-next.unpatched)
+    let marked = subst (IsMarked c.args.row.now ring.live c.loop-next.row)
     (ap (λ o. left o ring.live) c.in-Some.is ∙ left_here c.in-Some.place ring.live alone.stored there) c.loop-next.invariant.marked in
     record {
-      marked = subst (IsMarked c.args.row.now c.args.unpatched ring.live c.mark_part.new.row c.saturating_add-unpatched.result)
+      marked = subst (IsMarked c.args.row.now ring.live c.mark_part.new.row)
           (sym (left_next c.in-Some.place c.live_behind-next-in-Some.result ring.live c.requires.once c.live_behind-next-in-Some.ensures.next))
-          (still_marked c.args.row.now c.args.unpatched ring.live c.loop-next.row c.mark_part.new.row c.loop-next.unpatched c.awaiting.result c.saturating_add-unpatched.result alone.stored c.key_at-key.result
-          (behind c.in-Some.place ring.live) marked key c.mark_part.ensures c.awaiting.ensures c.saturating_add-unpatched.ensures);
+          (still_marked c.args.row.now ring.live c.loop-next.row c.mark_part.new.row alone.stored c.key_at-key.result
+          (behind c.in-Some.place ring.live) marked key c.mark_part.ensures);
       alone = c.live_behind-next-in-Some.ensures.alone;
     }
 
-pub returns-clause-row : goal.returns-clause-row
-returns-clause-row c =
-    ended_row c.args.row.now c.args.unpatched c.args.ring.now.live c.loop-next.row c.loop-next.unpatched
-    (subst (IsMarked c.args.row.now c.args.unpatched c.args.ring.now.live c.loop-next.row c.loop-next.unpatched) (left_none c.loop-next.next c.args.ring.now.live c.in_default.is) c.loop-next.invariant.marked)
-
-pub returns-clause-unpatched : goal.returns-clause-unpatched
-returns-clause-unpatched c =
-    ended_count c.args.row.now c.args.unpatched c.args.ring.now.live c.loop-next.row c.loop-next.unpatched
-    (subst (IsMarked c.args.row.now c.args.unpatched c.args.ring.now.live c.loop-next.row c.loop-next.unpatched) (left_none c.loop-next.next c.args.ring.now.live c.in_default.is) c.loop-next.invariant.marked)
+pub returns : goal.returns
+returns c =
+    ended_row c.args.row.now c.args.ring.now.live c.loop-next.row
+    (subst (IsMarked c.args.row.now c.args.ring.now.live c.loop-next.row) (left_none c.loop-next.next c.args.ring.now.live c.in_default.is) c.loop-next.invariant.marked)

@@ -6,7 +6,7 @@ use Rattle.trace_buffer.proofs.closing.mark_parts.Given as goal
 
 abbrev pub invariant-loop-next : goal.invariant-loop-next
 invariant-loop-next l = record {
-  marked : IsMarked l.fn.row l.fn.unpatched l.ring.live l.row l.unpatched (left l.next l.ring.live);
+  marked : IsMarked l.fn.row l.ring.live l.row (left l.next l.ring.live);
   alone : IfSome l.next (IsAlone l.ring);
 }
 

@@ -7,6 +7,7 @@ use Rattle.trace_model.specs.Counts.{raised}
 use Rattle.trace_model.specs.Sequences.{Sequence}
 use Rattle.trace_buffer.specs.BufferFields.{buffer_view, AreParts}
 use Rattle.trace_buffer.specs.Records.{record_of, meets_record, met_records, displaced, unread_losses}
+use Rattle.trace_buffer.specs.Unfinished.{unfinished_of}
 use Rattle.trace_buffer.proofs.PartLemmas.{items_of}
 use Rattle.trace_buffer.proofs.RoomLemmas.{map_stay}
 use Rattle.trace_buffer.proofs.buffer.TraceBuffer.clear_room.Goals as goal
@@ -20,7 +21,9 @@ invariant_of-self c =
       parts = subst (AreParts c.make_room-self-inside.new.ring c.make_room-self-inside.new.index)
           (sym (items_of c.self.inside.rows c.make_room-self-inside.new.rows (ap length all ∙ length-map c.self.inside.rows.items (with_losses gone))))
           c.make_room-self-inside.ensures.parts;
-      counted = c.make_room-self-inside.ensures.counted;
+      counted = c.make_room-self-inside.ensures.counted
+          ∙ ap (λ ss. unfinished_of ss c.make_room-self-inside.new.ring.live)
+          (sym (items_of c.self.inside.rows c.make_room-self-inside.new.rows (ap length all ∙ length-map c.self.inside.rows.items (with_losses gone))));
     }
 
 pub returns : goal.returns

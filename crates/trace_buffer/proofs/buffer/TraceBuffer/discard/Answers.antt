@@ -9,7 +9,8 @@ use Rattle.trace_buffer.specs.BufferFields.{buffer_view}
 use Rattle.trace_buffer.specs.Records.{chunk_of}
 use Rattle.trace_buffer.proofs.LossLemmas.{discarded_is}
 use Rattle.trace_buffer.specs.Keys.{discarded_by}
-use Rattle.trace_buffer.proofs.PartLemmas.{rows_after, parts_after, keeps_discarded}
+use Rattle.trace_buffer.proofs.CountLemmas.{counted_after}
+use Rattle.trace_buffer.proofs.PartLemmas.{rows_after, parts_after, keeps_discarded, sizes}
 use Rattle.trace_buffer.proofs.buffer.TraceBuffer.discard.Goals as goal
 
 pub invariant_of-self : goal.invariant_of-self
@@ -17,7 +18,8 @@ invariant_of-self c =
     record {
       parts = parts_after c.self.inside.ring c.self.inside.index c.self.inside.rows c.deref_mut.result.now c.note_discarded.new.rows c.args.key.sequence
           (discarded_by c.args.key) (keeps_discarded c.args.key) c.self.invariant.parts c.deref_mut.ensures.value c.note_discarded.ensures;
-      counted = c.self.invariant.counted;
+      counted = counted_after c.self.inside.rows c.deref_mut.result.now c.note_discarded.new.rows c.args.key.sequence (discarded_by c.args.key) c.self.inside.ring.live c.self.inside.unfinished
+          (sizes (keeps_discarded c.args.key)) c.self.invariant.counted c.deref_mut.ensures.value c.note_discarded.ensures;
     }
 
 no_part : (b : Bool) → not b ≡ true → b ≡ false

@@ -1,18 +1,18 @@
-use Rattle.std.proofs.Common.{◌≡◌, ℕ, ◌+◌, ◌*◌, ◌<◌, ◌≤◌, true, false, List, ◌++◌, [], ◌∷◌, length, sum_by, sym, ap, ap₂, ◌∙◌, subst, arith, length-append}
+use Rattle.std.proofs.Common.{◌≡◌, ℕ, ◌+◌, ◌*◌, ◌<◌, ◌≤◌, true, false, List, ◌++◌, [], ◌∷◌, length, sum_by, sym, ap, ◌∙◌, subst, arith, length-append}
 use Rattle.std.specs.List.{find}
 use Rattle.page_geometry.specs.Sizes.{record_size}
-use Rattle.ring_bytes.specs.Value.{Stored, RingValue, placed, size_of, written}
+use Rattle.ring_bytes.specs.Value.{Stored, RingValue, placed, size_of}
 use Rattle.ring_bytes.specs.declared.key.RecordKey.{RecordKey}
 use Rattle.trace_model.specs.Arrivals.{is_too_far}
 use Rattle.trace_model.specs.Buffers.{Buffer, meets, live_at, is_of}
-use Rattle.trace_model.specs.Sequences.{is_known, sequence_in, has_arrived}
+use Rattle.trace_model.specs.Sequences.{Sequence, is_known, sequence_in, has_arrived}
 use Rattle.trace_buffer.specs.BufferFields.{IsKept}
-use Rattle.trace_buffer.specs.Closing.{unfinished_of}
 use Rattle.trace_buffer.specs.Records.{meets_record}
+use Rattle.trace_buffer.specs.Unfinished.{unfinished_of, HaveOneMore}
 use Rattle.trace_buffer.proofs.FindLemmas.{find_no_record}
 use Rattle.trace_buffer.proofs.KeptLemmas.{parts_more}
 use Rattle.trace_buffer.proofs.KeepLemmas.{free_is, absent_is, roomy, roomy_kept, roomy_with, few_entries}
-use Rattle.trace_buffer.proofs.UnfinishedLemmas.{one_of, count_placed, few_unfinished}
+use Rattle.trace_buffer.proofs.UnfinishedLemmas.{placed_counted, few_unfinished}
 use Rattle.trace_buffer.proofs.buffer.TraceBuffer.keep.Goals as goal
 
 pub write-at-requires-clause-free : goal.write-at-requires-clause-free
@@ -44,18 +44,10 @@ add-requires-clause-room c =
     few in
     omega (arith, most, length-append ring.live (new ∷ []), c.self.invariant.parts.indexed.few)
 
-counted_more : (ring new : RingValue) (key : RecordKey) (payload : List ℕ) (count one : ℕ) → count ≡ unfinished_of ring.live → one ≡ one_of key → new ≡ written ring key payload → count + one ≡ unfinished_of new.live
-counted_more ring new key payload count one count_is one_is new_is =
-    ap₂ (λ n m. n + m) count_is one_is
-    ∙ sym (ap (λ (r : RingValue). unfinished_of r.live) new_is ∙ count_placed ring.live (placed ring key payload))
-
-pub overflow_add-self : goal.overflow_add-self
-overflow_add-self c =
-    let total = counted_more c.self.inside.ring c.write-at.new.self c.args.key c.args.payload.now c.self.inside.unfinished c.unfinished_in.result c.self.invariant.counted c.unfinished_in.ensures c.write-at.ensures.after in
-    let few = few_unfinished c.write-at.new.self.room c.write-at.new.self.live c.write-at.ensures.few in
-    let room_is : c.write-at.new.self.room ≡ c.self.inside.ring.room = ap (λ (r : RingValue). r.room) c.write-at.ensures.after in
+pub add-requires-2-clause-few : goal.add-requires-2-clause-few
+add-requires-2-clause-few c =
     let view : c.self.inside.ring.room ≡ c.args.self.now.room = ap (λ (b : Buffer). b.room) c.self.view_is in
-    omega (arith, total, few, room_is, view, c.requires.small)
+    few_unfinished c.self.inside.ring.room c.self.inside.rows.items c.self.inside.ring.live c.self.inside.unfinished c.place_next-padding.ensures.few (omega (arith, view, c.requires.small)) c.self.invariant.counted
 
 pub invariant_of-self : goal.invariant_of-self
 invariant_of-self c =
@@ -77,5 +69,7 @@ invariant_of-self c =
           (find_no_record (is_of key.sequence key.chunk_id) ring.live (ap (λ (b : Buffer). live_at b key.sequence key.chunk_id) view ∙ c.requires.none))
           (find_no_record (meets_record ring (record_size (length payload))) ring.live (ap (λ (b : Buffer). find (meets b (record_size (length payload))) b.live) view ∙ c.requires.free))
           kept;
-      counted = counted_more ring c.write-at.new.self key payload c.self.inside.unfinished c.unfinished_in.result c.self.invariant.counted c.unfinished_in.ensures c.write-at.ensures.after;
+      counted = placed_counted c.self.inside.rows.items ring.live (placed ring key payload) c.self.inside.unfinished c.add-2.new.self c.self.invariant.counted
+          (subst (λ (ss : List Sequence). HaveOneMore ss key c.self.inside.unfinished c.add-2.new.self) c.deref.ensures.value c.add-2.ensures)
+          ∙ ap (λ (r : RingValue). unfinished_of c.self.inside.rows.items r.live) (sym c.write-at.ensures.after);
     }

@@ -1,6 +1,7 @@
-use Rattle.std.proofs.Common.{sym, ap}
+use Rattle.std.proofs.Common.{List, [], sym, ap, ◌∙◌}
 use Rattle.ring_bytes.specs.Value.{RingValue}
-use Rattle.trace_buffer.specs.Closing.{unfinished_of}
+use Rattle.trace_model.specs.Sequences.{Sequence}
+use Rattle.trace_buffer.specs.Unfinished.{unfinished_of}
 use Rattle.trace_buffer.proofs.MadeLemmas.{small_more, parts_made}
 use Rattle.trace_buffer.proofs.buffer.TraceBuffer.make.Goals as goal
 
@@ -14,5 +15,6 @@ pub invariant_of-result : goal.invariant_of-result
 invariant_of-result c = record {
   parts = parts_made c.in_ok-ring.ring c.in_ok-index.index c.in_ok-rows.rows.items c.args.spec.size c.least_size-least.result c.args.sequences.now
       c.in_ok-ring.ensures c.in_ok-index.ensures c.in_ok-rows.ensures c.least_size-least.ensures.some c.requires.small c.least_size-least.ensures.least c.requires.distinct;
-  counted = ap (λ (r : RingValue). unfinished_of r.live) (sym c.in_ok-ring.ensures);
+  counted = c.in_ok-unfinished.ensures ∙ ap (λ (ss : List Sequence). unfinished_of ss []) c.deref.ensures.value
+      ∙ ap (λ (r : RingValue). unfinished_of c.in_ok-rows.rows.items r.live) (sym c.in_ok-ring.ensures);
 }

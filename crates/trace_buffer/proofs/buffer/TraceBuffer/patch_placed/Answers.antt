@@ -3,22 +3,22 @@ use Rattle.std.specs.List.{find}
 use Rattle.std.specs.Option.{IsSomeAnd}
 use Rattle.page_geometry.specs.Sizes.{record_size}
 use Rattle.ring_bytes.specs.declared.key.RecordKey.{RecordKey}
-use Rattle.ring_bytes.specs.Value.{Stored, RingValue}
+use Rattle.ring_bytes.specs.Value.{Stored, RingValue, change_at, without_stored}
 use Rattle.ring_bytes.proofs.RowLemmas.{size_least}
 use Rattle.commit_body.specs.Patches.{patch_value}
 use Rattle.trace_model.specs.Buffers.{Buffer, BufferRecord, is_of}
 use Rattle.trace_model.specs.Images.{Patch, last_holds}
 use Rattle.trace_model.specs.Patches.{BadOffset, Applied, awaits_at, answer_to, with_patch}
 use Rattle.trace_model.specs.Reading.{reading_of, fragments_of}
-use Rattle.trace_model.specs.Sequences.{sequence_in}
+use Rattle.trace_model.specs.Sequences.{Sequence, is_known, sequence_in}
 use Rattle.trace_buffer.specs.BufferFields.{buffer_view}
-use Rattle.trace_buffer.specs.Closing.{unfinished_of}
 use Rattle.trace_buffer.specs.Patching.{last_has}
 use Rattle.trace_buffer.specs.Records.{record_of, is_at_key}
+use Rattle.trace_buffer.specs.Unfinished.{unfinished_of, HaveOneMore, HaveOneLess, HaveOne}
 use Rattle.trace_buffer.proofs.FindLemmas.{is_found, none_is, kept_found, mapped, place_had, its_sequence, readable_is}
 use Rattle.trace_buffer.proofs.PatchedLemmas.{none_with, one_with, none_changes, both_changes, patched_stored, still_there, taken}
 use Rattle.trace_buffer.proofs.PutLemmas.{payload_patched}
-use Rattle.trace_buffer.proofs.UnfinishedLemmas.{one_of, dropped_count, changed_count, awaiting_one, only_of}
+use Rattle.trace_buffer.proofs.UnfinishedLemmas.{there_counted, dropped_counted, changed_counted, counted_length, few_without, only_of}
 use Rattle.trace_buffer.proofs.buffer.TraceBuffer.patch_placed.Goals as goal
 
 -- the same records, where none takes the patch
@@ -125,13 +125,48 @@ set_awaits-requires c =
     let f = is_found c.self.inside.ring c.args.sequence c.args.patch.now.chunk_id c.in-Some.place c.find_place.result c.in-Some.is c.find_place.ensures.place c.find_place.ensures.there in
     still_there c.self.inside.ring c.patch_at.new.self c.in-Some.place (patch_value c.args.patch.now) f.stored c.patch_at.ensures f.there
 
-pub overflow_sub-self : goal.overflow_sub-self
-overflow_sub-self c =
+pub take-requires-clause-known : goal.take-requires-clause-known
+take-requires-clause-known c =
+    let f = is_found c.self.inside.ring c.args.sequence c.args.patch.now.chunk_id c.in-Some.place c.find_place.result c.in-Some.is c.find_place.ensures.place c.find_place.ensures.there in
+    let kept = kept_found (is_at_key c.args.sequence c.args.patch.now.chunk_id) c.self.inside.rows.items c.self.inside.ring.live f.stored c.self.invariant.parts.kept f.found in
+    let key : c.key_at-key.result ≡ f.stored.key = mapped (λ (s : Stored). s.key) _ f.stored c.key_at-key.result f.there c.key_at-key.ensures in
+    ap₂ (λ (ss : List Sequence) (k : RecordKey). is_known ss k.sequence) c.deref-2.ensures.value key ∙ kept.known
+
+pub take-requires-clause-there : goal.take-requires-clause-there
+take-requires-clause-there c =
     let f = is_found c.self.inside.ring c.args.sequence c.args.patch.now.chunk_id c.in-Some.place c.find_place.result c.in-Some.is c.find_place.ensures.place c.find_place.ensures.there in
     let key : c.key_at-key.result ≡ f.stored.key = mapped (λ (s : Stored). s.key) _ f.stored c.key_at-key.result f.there c.key_at-key.ensures in
-    let awaits : f.stored.key.awaits ≡ true = sym (ap (λ (k : RecordKey). k.awaits) key) ∙ does c.key_at-key.result.awaits c.if-not-key.false in
     let only = only_of c.in-Some.place c.self.inside.ring.live f.stored c.self.invariant.parts.indexed.places_once f.there in
-    (dropped_count c.in-Some.place c.self.inside.unfinished 1 f.stored.key c.self.inside.ring.live f.stored only refl c.self.invariant.counted (awaiting_one f.stored.key awaits)).0
+    subst (λ (ss : List Sequence). HaveOne ss c.key_at-key.result c.self.inside.unfinished) (sym c.deref-2.ensures.value)
+    (there_counted c.self.inside.rows.items c.in-Some.place c.self.inside.ring.live f.stored c.key_at-key.result c.self.inside.unfinished only key c.self.invariant.counted)
+
+pub add-requires-clause-known : goal.add-requires-clause-known
+add-requires-clause-known c =
+    let f = is_found c.self.inside.ring c.args.sequence c.args.patch.now.chunk_id c.in-Some.place c.find_place.result c.in-Some.is c.find_place.ensures.place c.find_place.ensures.there in
+    let kept = kept_found (is_at_key c.args.sequence c.args.patch.now.chunk_id) c.self.inside.rows.items c.self.inside.ring.live f.stored c.self.invariant.parts.kept f.found in
+    let key : c.key_at-key.result ≡ f.stored.key = mapped (λ (s : Stored). s.key) _ f.stored c.key_at-key.result f.there c.key_at-key.ensures in
+    ap₂ (λ (ss : List Sequence) (k : RecordKey). is_known ss k.sequence) c.deref-3.ensures.value key ∙ kept.known
+
+pub add-requires-clause-length : goal.add-requires-clause-length
+add-requires-clause-length c =
+    let f = is_found c.self.inside.ring c.args.sequence c.args.patch.now.chunk_id c.in-Some.place c.find_place.result c.in-Some.is c.find_place.ensures.place c.find_place.ensures.there in
+    let key : c.key_at-key.result ≡ f.stored.key = mapped (λ (s : Stored). s.key) _ f.stored c.key_at-key.result f.there c.key_at-key.ensures in
+    let only = only_of c.in-Some.place c.self.inside.ring.live f.stored c.self.invariant.parts.indexed.places_once f.there in
+    let less : c.take.new.self ≡ unfinished_of c.self.inside.rows.items (without_stored c.in-Some.place c.self.inside.ring.live) =
+    dropped_counted c.self.inside.rows.items c.in-Some.place c.self.inside.ring.live f.stored c.key_at-key.result c.self.inside.unfinished c.take.new.self only key c.self.invariant.counted
+    (subst (λ (ss : List Sequence). HaveOneLess ss c.key_at-key.result c.self.inside.unfinished c.take.new.self) c.deref-2.ensures.value c.take.ensures) in
+    counted_length c.self.inside.rows.items (without_stored c.in-Some.place c.self.inside.ring.live) c.take.new.self less ∙ ap length (sym c.deref-3.ensures.value)
+
+pub add-requires-clause-few : goal.add-requires-clause-few
+add-requires-clause-few c =
+    let f = is_found c.self.inside.ring c.args.sequence c.args.patch.now.chunk_id c.in-Some.place c.find_place.result c.in-Some.is c.find_place.ensures.place c.find_place.ensures.there in
+    let key : c.key_at-key.result ≡ f.stored.key = mapped (λ (s : Stored). s.key) _ f.stored c.key_at-key.result f.there c.key_at-key.ensures in
+    let only = only_of c.in-Some.place c.self.inside.ring.live f.stored c.self.invariant.parts.indexed.places_once f.there in
+    let less : c.take.new.self ≡ unfinished_of c.self.inside.rows.items (without_stored c.in-Some.place c.self.inside.ring.live) =
+    dropped_counted c.self.inside.rows.items c.in-Some.place c.self.inside.ring.live f.stored c.key_at-key.result c.self.inside.unfinished c.take.new.self only key c.self.invariant.counted
+    (subst (λ (ss : List Sequence). HaveOneLess ss c.key_at-key.result c.self.inside.unfinished c.take.new.self) c.deref-2.ensures.value c.take.ensures) in
+    let room : c.self.inside.ring.room ≡ c.args.self.now.room = ap (λ (b : Buffer). b.room) c.self.view_is in
+    few_without c.self.inside.ring.room c.in-Some.place c.self.inside.rows.items c.self.inside.ring.live f.stored c.take.new.self only c.place_next-few.ensures.few (omega (arith, room, c.check_size.ensures.small)) less
 
 pub invariant_of-self : goal.invariant_of-self
 invariant_of-self c =
@@ -142,16 +177,21 @@ invariant_of-self c =
     let awaits : f.stored.key.awaits ≡ true = sym (ap (λ (k : RecordKey). k.awaits) key) ∙ does c.key_at-key.result.awaits c.if-not-key.false in
     let held = sym (c.last_holds.ensures ∙ ap₂ (λ (k : RecordKey) p. last_has k.count p (patch_value c.args.patch.now)) key payload) ∙ c.if-not-last_holds.false in
     let only = only_of c.in-Some.place c.self.inside.ring.live f.stored c.self.invariant.parts.indexed.places_once f.there in
-    let counted = changed_count c.in-Some.place c.self.inside.unfinished 1 c.unfinished_in.result (patched_stored (patch_value c.args.patch.now)) c.self.inside.ring.live f.stored only
-    c.self.invariant.counted (awaiting_one f.stored.key awaits) (c.unfinished_in.ensures ∙ ap (λ (k : RecordKey). one_of (record k { awaits = not c.args.patch.now.last })) key) in
+    let less : c.take.new.self ≡ unfinished_of c.self.inside.rows.items (without_stored c.in-Some.place c.self.inside.ring.live) =
+    dropped_counted c.self.inside.rows.items c.in-Some.place c.self.inside.ring.live f.stored c.key_at-key.result c.self.inside.unfinished c.take.new.self only key c.self.invariant.counted
+    (subst (λ (ss : List Sequence). HaveOneLess ss c.key_at-key.result c.self.inside.unfinished c.take.new.self) c.deref-2.ensures.value c.take.ensures) in
+    let more : c.add.new.self ≡ unfinished_of c.self.inside.rows.items (change_at c.in-Some.place (patched_stored (patch_value c.args.patch.now)) c.self.inside.ring.live) =
+    changed_counted c.self.inside.rows.items c.in-Some.place (patched_stored (patch_value c.args.patch.now)) c.self.inside.ring.live f.stored (record c.key_at-key.result { awaits = not c.args.patch.now.last }) c.take.new.self c.add.new.self only
+    (ap (λ (k : RecordKey). record k { awaits = not c.args.patch.now.last }) key) less
+    (subst (λ (ss : List Sequence). HaveOneMore ss (record c.key_at-key.result { awaits = not c.args.patch.now.last }) c.take.new.self c.add.new.self) c.deref-3.ensures.value c.add.ensures) in
     let done = taken c.self.inside.ring c.set_awaits.new.self c.self.inside.index c.self.inside.rows.items c.args.sequence c.in-Some.place (patch_value c.args.patch.now) f.stored c.self.invariant.parts f.found
     (place_had c.self.inside.ring c.args.sequence c.args.patch.now.chunk_id c.in-Some.place c.find_place.result f.stored c.in-Some.is c.find_place.ensures.place f.found)
     (both_changes c.self.inside.ring c.patch_at.new.self c.set_awaits.new.self c.in-Some.place (patch_value c.args.patch.now) c.patch_at.ensures c.set_awaits.ensures)
     (omega arith) kept awaits held in
     record {
       parts = done.parts;
-      counted = counted.1
-          ∙ ap (λ (r : RingValue). unfinished_of r.live) (sym (both_changes c.self.inside.ring c.patch_at.new.self c.set_awaits.new.self c.in-Some.place (patch_value c.args.patch.now) c.patch_at.ensures c.set_awaits.ensures));
+      counted = more
+          ∙ ap (λ (r : RingValue). unfinished_of c.self.inside.rows.items r.live) (sym (both_changes c.self.inside.ring c.patch_at.new.self c.set_awaits.new.self c.in-Some.place (patch_value c.args.patch.now) c.patch_at.ensures c.set_awaits.ensures));
     }
 
 pub returns-clause-answer : goal.returns-clause-answer
