@@ -1,4 +1,5 @@
 pub mod CircleLemmas
+pub mod DeliverLemmas
 pub mod CopyLemmas
 pub mod RowLemmas
 pub mod LossLemmas

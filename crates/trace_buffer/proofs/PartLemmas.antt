@@ -8,6 +8,7 @@ use Rattle.trace_model.specs.Arrivals.{is_too_far}
 use Rattle.ring_bytes.specs.declared.key.RecordKey.{RecordKey}
 use Rattle.trace_model.specs.Buffers.{BufferRecord, with_losses}
 use Rattle.trace_model.specs.Reads.{Turn, advanced}
+use Rattle.trace_buffer.specs.Calls.{delivered_to}
 use Rattle.trace_buffer.specs.Keys.{discarded_by}
 use Rattle.trace_model.specs.Sequences.{Cursor, Sequence, is_known, sequence_in, changed_at, has_arrived}
 use Rattle.trace_buffer.specs.BufferFields.{AreParts, AllKept, IsKept, AllFit, NumbersOnce}
@@ -129,6 +130,9 @@ parts_after ring index v seen new number g keeps parts same is =
 
 pub keeps_advanced : (to : Cursor) (turn : Turn) → KeepsRow (advanced to turn)
 keeps_advanced to turn = record { number = λ s. refl; size = λ s. refl; arrived = λ s. refl }
+
+pub keeps_delivered : (to : Cursor) (count : ℕ) → KeepsRow (delivered_to to count)
+keeps_delivered to count = record { number = λ s. refl; size = λ s. refl; arrived = λ s. refl }
 
 pub keeps_discarded : (key : RecordKey) → KeepsRow (discarded_by key)
 keeps_discarded key = record { number = λ s. refl; size = λ s. refl; arrived = λ s. refl }

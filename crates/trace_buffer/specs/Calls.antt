@@ -1,17 +1,31 @@
 -- What a reader asks of a buffer, and tells it.
-use Rattle.std.specs.Prelude.{◌≡◌, ℕ, Bool, not, ◌&&◌, ◌||◌, List, Option, Some, None, is_some}
+use Rattle.std.specs.Prelude.{◌≡◌, ℕ, zero, suc, Bool, false, not, ◌&&◌, ◌||◌, List, Option, Some, None, is_some}
 use Rattle.std.specs.Option.{option_map}
 use Rattle.ring_bytes.specs.declared.key.RecordKey.{RecordKey}
 use Rattle.trace_model.specs.Buffers.{Buffer, BufferRecord, live_at}
+use Rattle.trace_model.specs.Counts.{raised}
 use Rattle.trace_model.specs.Reading.{Fragments, reading_of}
-use Rattle.trace_model.specs.Reads.{Turn, advanced}
-use Rattle.trace_model.specs.Sequences.{Cursor, sequence_in, changed_at, has_arrived, is_among}
+use Rattle.trace_model.specs.Reads.{Turn, Delivers, advanced}
+use Rattle.trace_model.specs.Sequences.{Sequence, Cursor, sequence_in, changed_at, has_arrived, is_among}
 use Rattle.trace_buffer.specs.Records.{chunk_of}
 
 -- the buffer once a reader of the sequence has come to a place
 abbrev pub with_advance : Buffer → ℕ → Cursor → Turn → Buffer
 with_advance buffer sequence to turn =
     record buffer { sequences = changed_at sequence (advanced to turn) buffer.sequences }
+
+-- the buffer once its reader has delivered so many packets one behind another, with the last of which it has come to a place
+abbrev pub with_deliveries : Buffer → ℕ → Cursor → ℕ → Buffer
+with_deliveries buffer sequence to zero = buffer
+with_deliveries buffer sequence to (suc more) = with_advance (with_deliveries buffer sequence to more) sequence to Delivers
+
+-- the sequence after that, where it was one packet at least
+abbrev pub delivered_to : Cursor → ℕ → Sequence → Sequence
+delivered_to to count state = record state {
+  cursor = to;
+  missing = false;
+  delivered = raised state.delivered count;
+}
 
 -- The chunk has no record, and there was one, or a place that was refused to it: it arrived complete, or a part of it was
 -- there when its sequence was closed.

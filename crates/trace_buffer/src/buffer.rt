@@ -16,6 +16,7 @@ ghost use Rattle.trace_buffer.specs.Calls.{with_advance, place_in, IsImageOf};
 ghost use Rattle.trace_buffer.specs.BufferFields.{NoPart, IsPartNear};
 
 mod copying;
+mod deliveries;
 mod doors;
 mod state;
 

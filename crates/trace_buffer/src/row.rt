@@ -7,6 +7,7 @@ ghost use Rattle.trace_model.specs.Arrivals.{is_too_far, with_arrived};
 ghost use Rattle.trace_model.specs.Reads.{advanced};
 ghost use Rattle.trace_model.specs.Row.{horizon};
 ghost use Rattle.trace_buffer.specs.Answers.{cursor_value, turn_value, state_of};
+ghost use Rattle.trace_buffer.specs.Calls.{delivered_to};
 ghost use Rattle.trace_buffer.specs.Clones.{none_delivered};
 ghost use Rattle.trace_buffer.specs.Keys as keys;
 ghost use Rattle.trace_buffer.specs.Keys.{cursor_behind};
@@ -208,6 +209,16 @@ impl SequenceRow {
             Passed::Cut => self.cut = self.cut.saturating_add(1),
             Passed::Nothing => {}
         }
+    }
+
+    /// A reader has come to a place behind so many packets that it delivered.
+    pub fn deliver(&mut self, to: Cursor, count: u64)
+        ensures { self.new ≡ delivered_to (cursor_value to) count self.old }
+    {
+        self.at = to.chunk_id;
+        self.passed = to.passed;
+        self.missing = false;
+        self.delivered = self.delivered.saturating_add(count);
     }
 
     pub fn close(&mut self)

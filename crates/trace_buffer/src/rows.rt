@@ -4,6 +4,7 @@ ghost use Rattle.trace_model.specs.Sequences.{fresh, is_known, sequence_in, chan
 ghost use Rattle.trace_model.specs.Arrivals.{is_too_far, with_arrived};
 ghost use Rattle.trace_model.specs.Reads.{advanced};
 ghost use Rattle.trace_buffer.specs.Answers.{cursor_value, turn_value};
+ghost use Rattle.trace_buffer.specs.Calls.{delivered_to};
 ghost use Rattle.trace_buffer.specs.Clones.{none_delivered};
 ghost use Rattle.trace_buffer.specs.Keys.{LosesAt, discarded_by};
 ghost use Rattle.trace_buffer.specs.Made.{sequence_of, AllSmall, AllTakeLeast};
@@ -130,6 +131,16 @@ pub fn advance(rows: &mut [SequenceRow], number: u32, to: Cursor, passed: Passed
     let i = find_row(rows, number);
     let row = &mut rows[i];
     row.advance(to, passed);
+}
+
+pub fn deliver(rows: &mut [SequenceRow], number: u32, to: Cursor, count: u64)
+    requires known { is_known rows.old number ≡ true }
+    requires once { NumbersOnce rows.old }
+    ensures { rows.new ≡ changed_at number (delivered_to (cursor_value to) count) rows.old }
+{
+    let i = find_row(rows, number);
+    let row = &mut rows[i];
+    row.deliver(to, count);
 }
 
 pub fn reset_delivered(rows: &mut [SequenceRow], number: u32)
