@@ -71,6 +71,7 @@ fn two(first: u8, second: u8) -> [u8; 2]
 }
 
 /// Writes the head of a record. Most are of two bytes, which go to the sink at once.
+#[inline(always)]
 fn put_head<O: Sink>(out: &mut O, len: u64) -> Result<(), WriteFault>
     requires { O.may_write out.old }
     ensures all { OnOk result (O.taken out.new ≡ after_told (O.taken out.old) (0x0A ∷ varint len)) }
@@ -85,6 +86,7 @@ fn put_head<O: Sink>(out: &mut O, len: u64) -> Result<(), WriteFault>
 }
 
 /// Writes what stands behind a packet's bytes, which mostly are two bytes.
+#[inline(always)]
 fn put_tail<O: Sink>(out: &mut O, sequence: u32, marked: bool) -> Result<(), WriteFault>
     requires { O.may_write out.old }
     ensures all { OnOk result (O.taken out.new ≡ after_told (O.taken out.old) (record_tail sequence marked)) }
@@ -118,6 +120,7 @@ impl RecordWriter {
     }
 
     /// The same of a packet of any length that a record can have.
+    #[inline(always)]
     pub fn start_long<O: Sink>(
         out: &mut O,
         len: u64,
@@ -142,6 +145,7 @@ impl RecordWriter {
     }
 
     /// Writes the next bytes of the packet.
+    #[inline(always)]
     pub fn part<O: Sink>(&mut self, out: &mut O, piece: &[u8]) -> Result<(), WriteFault>
         requires within { length piece.now ≤ self.old.left }
         requires may { O.may_write out.old }
@@ -156,6 +160,7 @@ impl RecordWriter {
     }
 
     /// Ends the record, once all bytes of the packet were given.
+    #[inline(always)]
     pub fn end<O: Sink>(self, out: &mut O) -> Result<(), WriteFault>
         requires whole { self.left ≡ 0 }
         requires may { O.may_write out.old }
