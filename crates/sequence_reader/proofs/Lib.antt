@@ -9,3 +9,4 @@ pub mod FoundLemmas
 pub mod PutLemmas
 pub mod TurnLemmas
 pub mod ReadLemmas
+pub mod RunLemmas

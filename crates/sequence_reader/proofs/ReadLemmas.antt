@@ -15,9 +15,9 @@ use Rattle.trace_buffer.specs.declared.answers.Passed.{Passed}
 use Rattle.trace_buffer.specs.declared.answers.Passed.TheVariants.{Delivered, Dropped, Overwritten, Discarded, Cut, Nothing}
 use Rattle.sequence_reader.specs.declared.ends.Why.{Why}
 use Rattle.sequence_reader.specs.declared.ends.Why.TheVariants.{Limit}
-use Rattle.sequence_reader.specs.declared.read.Progress.{Progress}
+use Rattle.sequence_reader.specs.declared.progress.Progress.{Progress}
 use Rattle.sequence_reader.specs.declared.spot.Bounds.{Bounds}
-use Rattle.sequence_reader.specs.Ends.{record_bytes, row_met, why_told, stop_told}
+use Rattle.sequence_reader.specs.Ends.{record_bytes, row_met, why_told, stop_told, EndsInRecordAt}
 use Rattle.sequence_reader.specs.Links.{IsLink, EndsAt}
 use Rattle.sequence_reader.specs.Spots.{AreBounds, IsSpot, IsHeld, rows_of, cursor_of}
 use Rattle.sequence_reader.specs.Turns.{IsAt, IsReadTo, GoesOn, IsDone, Fails}
@@ -198,6 +198,30 @@ pub read_whole : (start old new : Buffer) (before mid after : Intake) (q same li
     → IsDone old new mid after same (limit - count) why → IsReadWhole start new before after q limit count why
 read_whole start old new before mid after q same limit count why is most read done =
     subst (λ n. IsReadWhole start new before after n limit count why) is (whole_at start old new before mid after same limit count why most read done)
+
+pub read_why : (start old new : Buffer) (before mid after : Intake) (q same limit count : ℕ) (why : Why) → same ≡ q → count ≤ limit → IsReadTo start old before mid same count
+    → IsDone old new mid after same (limit - count) why → why ≡ why_told (read_end limit (row_met start q))
+read_why start old new before mid after q same limit count why is most read done =
+    let sum : limit ≡ count + (limit - count) = omega (arith, most) in
+    subst (λ n. why ≡ why_told (read_end limit (row_met start n))) is (sym (ap why_told (read.end (limit - count) limit sum) ∙ done.told))
+
+-- a write failed behind what was read
+pub read_fails : (start old new : Buffer) (before mid after : Intake) (q same limit count : ℕ) → same ≡ q → count ≤ limit → IsReadTo start old before mid same count
+    → Fails old new mid after same (limit - count) → EndsInRecordAt start new before after q limit count
+read_fails start old new before mid after q same limit count is most read fails =
+    let sum : limit ≡ count + (limit - count) = omega (arith, most) in
+    let all : count ≡ count + 0 = omega arith in
+    subst (λ n. EndsInRecordAt start new before after n limit count) is
+    (record {
+      delivered = delivered_by start same count;
+      failed = fails.failed;
+      others = fails.others;
+      cut = read.told (limit - count) limit sum ∙ ap (λ ds. delivered_by start same count ++ ds) fails.due;
+      number = read.many;
+      fewer = refl;
+      buffer = fails.same ∙ sym (read.state 0 count all ∙ fails.read);
+      part = subst (λ intake. TakesPart intake after (record_of fails.failed.body same fails.failed.marked)) read.taken fails.part;
+    })
 
 -- As the steps have it
 

@@ -9,6 +9,7 @@ use Rattle.trace_model.specs.Sequences.{Sequence, Cursor, sequence_in, is_known,
 use Rattle.trace_model.proofs.SequenceLemmas.{changed_here, known_changed}
 use Rattle.trace_model.proofs.CountedLemmas.{raised-raised, raised-none}
 use Rattle.trace_buffer.specs.Calls.{with_advance}
+use Rattle.trace_buffer.proofs.DeliverLemmas.{changed_twice}
 use Rattle.sequence_reader.specs.Ends.{row_met}
 use Rattle.sequence_reader.specs.Spots.{row_at, rows_of}
 
@@ -124,15 +125,6 @@ module _ (link : Link) (rest : List Link) (t : Turn) (turn : turn_of link ≡ t)
   }
 
 -- The sequences of a buffer
-
-changed_twice : (q : ℕ) (f g h : Sequence → Sequence) → ((s : Sequence) → (g s).number ≡ s.number) → ((s : Sequence) → h s ≡ f (g s)) → (ss : List Sequence)
-    → changed_at q h ss ≡ changed_at q f (changed_at q g ss)
-changed_twice q f g h keeps is [] = refl
-changed_twice q f g h keeps is (s ∷ ss) = ap₂ (λ t ts. t ∷ ts) (of (s.number == q) refl) (changed_twice q f g h keeps is ss)
-  where
-    of : (b : Bool) → (s.number == q) ≡ b → cond b (h s) s ≡ cond ((cond b (g s) s).number == q) (f (cond b (g s) s)) (cond b (g s) s)
-    of true e = is s ∙ ap (λ c. cond c (f (g s)) (g s)) (sym (ap (λ n. n == q) (keeps s) ∙ e))
-    of false e = ap (λ c. cond c (f s) s) (sym e)
 
 changed_none : (q : ℕ) (f : Sequence → Sequence) → ((s : Sequence) → f s ≡ s) → (ss : List Sequence) → changed_at q f ss ≡ ss
 changed_none q f is [] = refl

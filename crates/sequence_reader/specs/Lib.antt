@@ -3,3 +3,4 @@ pub mod Spots
 pub mod Steps
 pub mod Links
 pub mod Turns
+pub mod Runs

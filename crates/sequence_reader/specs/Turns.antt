@@ -9,7 +9,7 @@ use Rattle.trace_model.specs.Sequences.{sequence_in}
 use Rattle.trace_buffer.specs.Answers.{turn_value}
 use Rattle.trace_buffer.specs.Calls.{with_advance}
 use Rattle.sequence_reader.specs.declared.ends.Why.{Why}
-use Rattle.sequence_reader.specs.declared.read.Progress.{Progress}
+use Rattle.sequence_reader.specs.declared.progress.Progress.{Progress}
 use Rattle.sequence_reader.specs.declared.read.Put.{Put}
 use Rattle.sequence_reader.specs.declared.read.Put.TheVariants as put
 use Rattle.sequence_reader.specs.declared.read.Turned.{Turned}

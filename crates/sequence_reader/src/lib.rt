@@ -10,7 +10,9 @@ mod deliver;
 mod ends;
 mod held;
 mod link;
+mod progress;
 mod read;
+mod run;
 mod spot;
 mod step;
 

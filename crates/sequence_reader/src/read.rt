@@ -11,21 +11,12 @@ use crate::deliver::put_packet_at;
 use crate::ends::{ReadCount, ReadEnd, Why};
 use crate::held::Held;
 use crate::link::{Found, next_link};
-use crate::spot::{Bounds, Spot, find_spot};
+use crate::progress::Progress;
+use crate::run::{RunEnd, pass_run};
+use crate::spot::{Bounds, find_spot};
 use byte_io::put::WriteFault;
 use byte_io::traits::Sink;
 use trace_buffer::{Passed, TraceBuffer};
-
-/// How far a read has come.
-#[derive(Clone, Copy, Debug, PartialEq, Eq)]
-struct Progress {
-    at: Spot,
-    /// A chunk that it holds: mostly that of its spot.
-    held: Held,
-    /// The next packet that is delivered is marked.
-    marked: bool,
-    delivered: u64,
-}
 
 /// What became of a read at one link.
 #[derive(Clone, Copy, Debug, PartialEq, Eq)]
@@ -90,15 +81,26 @@ pub fn read_counted<O: Sink>(
     let bounds = bounds_of(buffer, sequence);
     let mut progress = begun(buffer, bounds);
     loop {
-        match pass_link(buffer, bounds, limit, progress, out) {
-            Turned::On { progress: next } => progress = next,
-            Turned::Ended { why } => {
-                return ReadCount {
-                    delivered: progress.delivered,
-                    end: Ok(why),
-                };
-            }
-            Turned::Failed => {
+        let ran = pass_run(buffer, bounds, limit, progress, out);
+        progress = ran.progress;
+        match ran.end {
+            RunEnd::Chunk => {}
+            RunEnd::Other => match pass_link(buffer, bounds, limit, progress, out) {
+                Turned::On { progress: next } => progress = next,
+                Turned::Ended { why } => {
+                    return ReadCount {
+                        delivered: progress.delivered,
+                        end: Ok(why),
+                    };
+                }
+                Turned::Failed => {
+                    return ReadCount {
+                        delivered: progress.delivered,
+                        end: Err(WriteFault),
+                    };
+                }
+            },
+            RunEnd::Fault => {
                 return ReadCount {
                     delivered: progress.delivered,
                     end: Err(WriteFault),
@@ -136,7 +138,8 @@ fn begun(buffer: &TraceBuffer, bounds: Bounds) -> Progress
     }
 }
 
-/// Goes on by one link.
+/// Goes on by one link. It stays a call, since most packets are delivered in runs.
+#[inline(never)]
 fn pass_link<O: Sink>(
     buffer: &mut TraceBuffer,
     bounds: Bounds,

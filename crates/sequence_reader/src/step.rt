@@ -114,7 +114,7 @@ fn absent(buffer: &TraceBuffer, bounds: Bounds, spot: Spot) -> Step<'_>
 
 /// What stands where a chunk has a record with this header and this payload.
 #[inline(always)]
-fn present(key: RecordKey, payload: &[u8], closed: bool, spot: Spot) -> Step<'_>
+pub fn present(key: RecordKey, payload: &[u8], closed: bool, spot: Spot) -> Step<'_>
     requires small { length payload.now ≤ 2 ^ 26 }
     requires reads { is_readable (reading_of key.count payload.now) ≡ true }
     requires fits { FitsChunk closed (chunk_of key payload.now) spot }

@@ -4,7 +4,7 @@ use Rattle.trace_model.specs.Reads.{Delivers, delivers, is_marked, link_bytes}
 use Rattle.trace_model.specs.Record.{record_of}
 use Rattle.trace_model.specs.Sequences as model
 use Rattle.trace_buffer.specs.Answers.{turn_value}
-use Rattle.sequence_reader.specs.declared.read.Progress.{Progress}
+use Rattle.sequence_reader.specs.declared.progress.Progress.{Progress}
 use Rattle.sequence_reader.specs.Spots.{rows_of, cursor_of}
 use Rattle.sequence_reader.specs.Links.{first_bytes}
 use Rattle.sequence_reader.proofs.ReadLemmas.{done_at_stop, done_at_limit, fails_here, goes_by, stays_on, taken_one, taken_none, none_counted}

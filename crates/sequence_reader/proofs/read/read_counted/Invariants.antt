@@ -3,8 +3,8 @@ use Rattle.sequence_reader.specs.Ends.{row_met}
 use Rattle.sequence_reader.specs.Turns.{IsAt, IsReadTo}
 use Rattle.sequence_reader.proofs.read.read_counted.Given as goal
 
-abbrev pub invariant-loop-next : goal.invariant-loop-next
-invariant-loop-next g l = record {
+abbrev pub invariant-loop-buffer : goal.invariant-loop-buffer
+invariant-loop-buffer g l = record {
   at : IsAt l.buffer l.bounds l.progress;
   sequence : l.bounds.sequence ≡ l.fn.sequence;
   most : l.progress.delivered ≤ l.fn.limit;
@@ -13,5 +13,5 @@ invariant-loop-next g l = record {
   may : g.O.Sink.may_write l.out;
 }
 
-abbrev pub decreases-loop-next : goal.decreases-loop-next
-decreases-loop-next g l = length (row_met l.buffer l.bounds.sequence)
+abbrev pub decreases-loop-buffer : goal.decreases-loop-buffer
+decreases-loop-buffer g l = length (row_met l.buffer l.bounds.sequence)
