@@ -1,10 +1,10 @@
 -- A frame that stands whole in front of a piece, and is played where it stands.
-use Rattle.std.proofs.Common.{◌≡◌, ◌∙◌, ℕ, ◌+◌, ◌^◌, ◌<◌, ◌==◌, Bool, true, false, List, [], ◌∷◌, length, drop, Result, Ok, refl, sym, ap, subst, arith}
+use Rattle.std.proofs.Common.{◌≡◌, ◌∙◌, ℕ, ◌+◌, ◌^◌, ◌<◌, ◌==◌, Bool, true, false, List, [], ◌∷◌, length, drop, Result, Ok, sym, ap, subst, arith}
 use Rattle.std.proofs.lemmas.Bool.{eqb-true}
 use Rattle.std.proofs.lemmas.List.{nil_from_length}
 use Rattle.byte_io.specs.Bytes.{Intake, TakesPart}
 use Rattle.chunk_plain.specs.Meaning.{Meaning}
-use Rattle.stream_frames.specs.Frames.{Frame, Limits, closes}
+use Rattle.stream_frames.specs.Frames.{Frame, closes}
 use Rattle.stream_frames.specs.Framing.{Feeding, Whole, Progress, between, by_front, front_of, then_fed, fed}
 use Rattle.stream_frames.specs.Reads.{IsReading}
 use Rattle.stream_frames.specs.Values.{limits_of, feeding_of}

@@ -1,7 +1,6 @@
 -- Each patch is there, since each was looked at.
-use Rattle.std.proofs.Common.{ℕ, map, List, refl, sym, ap, ◌∙◌, arith}
+use Rattle.std.proofs.Common.{map, ap, arith}
 use Rattle.std.proofs.lemmas.List.{map_push}
-use Rattle.trace_model.specs.Images.{Patch}
 use Rattle.commit_body.specs.Patches.{patch_value}
 use Rattle.stream_frames.specs.Decoding.{patches_at, first_of}
 use Rattle.stream_frames.proofs.LoopLemmas.{goes_on, fails, is_done, none_read, all_there}
