@@ -3,10 +3,12 @@
 
     tools/real_ends.py PROGRAM [WORD]      all tries, or those whose name has the word
 
-No contract can speak of what a file or a pipe does, so this holds the program's exit status, its line on standard error and
-what it wrote against what docs/FORMATS.md says of each status. A trace must be a front part of the untroubled one. A try prints
-one line; the exit status is 1 where one went wrong.
+No contract can speak of what a file or a pipe does, so this holds the program's exit status, what it says on standard error and
+what it wrote against what the second reading in tools/model answers. Where an end fails, that is cut: an output to a front part,
+and a report to a front part with the line of the fault behind it. Each end is tried under every command, with an outcome that no
+thread decides. A try prints one line; the exit status is 1 where one went wrong.
 """
+import io
 import os
 import resource
 import signal
@@ -15,140 +17,281 @@ import sys
 import tempfile
 import threading
 import time
+from dataclasses import dataclass
 
-TOP = os.path.dirname(os.path.dirname(os.path.abspath(__file__)))
+HERE = os.path.dirname(os.path.abspath(__file__))
+sys.path.insert(0, HERE)
+
+from model.answers import Answer    # noqa: E402
+from model.commands import answer_to    # noqa: E402
+
+TOP = os.path.dirname(HERE)
 MOST = 67_108_864
-SET = b'buffer 64 ring\nproducer 1 4096 14\nwriter 1 1 drop\n'
-STALL = b'buffer 64 ring\nproducer 1 4096 1\nwriter 1 1 stall\nwriter 1 1 stall\np 1 8:1\np 2 8:2\n'
-STREAM = b'buffers { size_kb: 4 }\ndata_sources { }\n==\n' + bytes.fromhex('0e0000000101000000000100010000024005 0100000003')
-USAGE = b'usage: tracesmb '
+READING = ('replay', 'run', 'read', 'check', 'stream', 'clone')
+REPORTING = ('replay', 'run', 'stream', 'clone')
+SET = b'buffer 4096 ring\nproducer 64 65536 1\nwriter 1 1 drop\n'
+STALLS = b'buffer 64 ring\nproducer 1 4096 1\nwriter 1 1 stall\nwriter 1 1 stall\n'
+CONFIG = b'buffers { size_kb: 4096 }\nproducers { page_size_kb: 64 shm_size_kb: 64 }\ndata_sources { config { } }\n==\n'
+CLOSE = bytes.fromhex('01 00 00 00 03')
+READ_FAULT, WRITE_FAULT, NO_MEMORY = b'read fault\n', b'write fault\n', b'out of memory\n'
+SIZES = (0, 1, 4096, 100_000)       # the most bytes that a file may have
+MEGABYTES = range(10, 501, 10)
 
 
-def example(name):
-    with open(os.path.join(TOP, 'examples', name), 'rb') as f:
-        return f.read()
+@dataclass(frozen=True)
+class Case:
+    """A command's words and input, and what the second reading answers."""
+    name: str
+    words: list[str]
+    input: bytes
+    wanted: Answer
+
+    @property
+    def reports(self) -> bool:
+        return self.words[:1] and self.words[0] in REPORTING and self.wanted.status == 0 and self.wanted.text != b''
+
+
+def case(name: str, words: list[str], text: bytes = b'') -> Case:
+    return Case(name, words, text, answer_to(words, io.BytesIO(text)))
+
+
+def varint(number: int) -> bytes:
+    return bytes([number]) if number < 128 else bytes([number & 127 | 128]) + varint(number >> 7)
+
+
+def record(packet: bytes) -> bytes:
+    return b'\x0a' + varint(len(packet)) + packet
+
+
+def commit(number: int, packet: bytes) -> bytes:
+    """A frame: a commit of a chunk with one fragment."""
+    frame = bytes([1, 1]) + number.to_bytes(4, 'little') + bytes([1, 0, 1, 0, 0]) + varint(len(packet)) + packet
+    return len(frame).to_bytes(4, 'little') + frame
+
+
+def large_cases() -> list[Case]:
+    """Each command with more output than a pipe holds, but `check` and `tune`, which write little."""
+    lines = SET + b''.join(b'p 1 %d:"xy"*%d\n' % (101 + i, 20_000 + i) for i in range(12))
+    replayed = case('replay', ['replay'], lines)
+    sequences = b''.join(record(b'\x50' + varint(2 + i)) for i in range(6000))
+    frames = b''.join(commit(i, b'\x0a' + varint(4000) + bytes([i]) * 4000) for i in range(100))
+    return [replayed, case('run', ['run'], lines), case('clone', ['clone'], lines + b'f 1\nc 1\nk 1\n'), case('read', ['read'], sequences),
+            case('check', ['check'], lines + b'==\n' + replayed.wanted.output), case('gen', ['gen', '7', '8', '1000']),
+            case('stream', ['stream'], CONFIG + frames + CLOSE), case('tune', ['tune', '1', '2'])]
+
+
+def short_cases() -> list[Case]:
+    """Each command that reads with a few bytes of input."""
+    return [case('replay', ['replay'], b'buffer 4 ring\n'), case('run', ['run'], b'buffer 4 ring\n'), case('clone', ['clone'], b'buffer 4 ring\n'),
+            case('read', ['read'], b'\x0a\x02\x50\x02'), case('check', ['check'], b'==\n\x0a\x02\x50\x07'), case('stream', ['stream'], b'==\n' + CLOSE)]
+
+
+def ended_cases() -> list[Case]:
+    """Each command that ends with a line, under each status that inputs and words alone bring about, but 7."""
+    none = (b'p 1\n', b'x 1\n', b'k 1\n')
+    refused = [case(f'{word}, refused', [word], text) for word, text in zip(('replay', 'run', 'clone'), none)]
+    refused += [case('read, refused', ['read'], b'\x0a\x02\x50'), case('check, refused', ['check'], b'buffer 4 ring\n'),
+                case('stream, refused', ['stream'], b'==\n' + CLOSE[:-1])]
+    stalled = [case(f'{word}, stalled', [word], STALLS + b'p 1 8:1\nf 1\nc 1\nr 1\np 1 8:2\np 2 8:3\n') for word in ('replay', 'clone')]
+    return [case('no command', ['play']), *refused, *stalled]
+
+
+def example(name: str) -> bytes:
+    with open(os.path.join(TOP, 'examples', name), 'rb') as file:
+        return file.read()
+
+
+def limited(kind: int, most: int, wanted: int | None = None, ignored: bool = True):
+    """What sets a limit in the process before the program begins, and what becomes of a signal there."""
+    def set_up():
+        if wanted is not None:
+            signal.signal(wanted, signal.SIG_IGN if ignored else signal.SIG_DFL)
+        if kind >= 0:
+            resource.setrlimit(kind, (most, most))
+    return set_up
 
 
 class Tries:
-    def __init__(self, program, wanted):
-        self.program, self.wanted, self.wrong = program, wanted, 0
-        self.many = self.run(['gen', '7', '8', '2000'])[1]
-        self.trace = self.run(['replay'], self.many)[1]
+    def __init__(self, program: str, wanted: str):
+        self.program, self.wanted, self.wrong, self.count = program, wanted, 0, 0
+        self.large, self.short, self.ended = large_cases(), short_cases(), ended_cases()
 
-    def run(self, words, text=b'', **how):
+    def run(self, words, text=b'', **how) -> Answer:
         if 'stdin' not in how:
             how['input'] = text
-        done = subprocess.run([self.program, *words], stdout=how.pop('stdout', subprocess.PIPE), stderr=how.pop('stderr', subprocess.PIPE), timeout=110, **how)
-        return done.returncode, done.stdout or b'', done.stderr or b''
+        how = {'stdout': subprocess.PIPE, 'stderr': subprocess.PIPE, **how}
+        done = subprocess.run([self.program, *words], timeout=110, check=False, **how)
+        return Answer(done.returncode, done.stdout or b'', done.stderr or b'')
 
-    def say(self, name, found, right):
-        """One line a try. `right` is what was to be found, or a test of it."""
-        if self.wanted not in name:
-            return
-        good = right(found) if callable(right) else found == right
-        self.wrong += not good
-        shown = '' if good else f': found {str(found)[:200]}' + ('' if callable(right) else f', wanted {str(right)[:200]}')
-        print(f"{'right' if good else 'WRONG'}  {name}{shown}", flush=True)
+    def run_by_shell(self, words, text, ends) -> Answer:
+        done = subprocess.run(['sh', '-c', f'exec "$0" "$@" {ends}', self.program, *words], input=text, capture_output=True, timeout=60, check=False)
+        return Answer(done.returncode, done.stdout, done.stderr)
 
-    def is_front(self, taken):
-        return self.trace.startswith(taken)
+    def is_tried(self, name: str) -> bool:
+        return self.wanted in name
+
+    def say(self, name: str, found: Answer, *right: Answer) -> None:
+        """One line a try: what was found is to be one of these."""
+        self.say_whether(name, found in right, found, right[0])
+
+    def say_whether(self, name: str, good: bool, found: Answer, right: object = '') -> None:
+        self.wrong, self.count = self.wrong + (not good), self.count + 1
+        print(f"{'right' if good else 'WRONG'}  {name}" + ('' if good else f': found {str(found)[:300]}, wanted {str(right)[:300]}'), flush=True)
 
 
-def each_status(tries):
+def each_status(tries: Tries) -> None:
     """Each status with its line, by words and inputs that ask for it; all words of the process count, and their order."""
-    hello = example('hello.scenario')
-    trace = example('hello.trace')
-    tries.say('status 0: replay', tries.run(['replay'], hello)[:2], (0, trace))
-    tries.say('status 0: run', tries.run(['run'], hello)[:2], (0, trace))
-    tries.say('status 0: read', tries.run(['read'], trace), (0, b'sequence 2 packets 2 marked 1 bytes 43\npackets 2 bytes 43\n', b''))
-    tries.say('status 0: check', tries.run(['check'], hello + b'==\n' + trace), (0, b'agrees 2\n', b''))
-    tries.say('status 0: stream', tries.run(['stream'], STREAM)[:2], (0, bytes.fromhex('0a0740055002d00201')))
-    tries.say('status 0: clone', tries.run(['clone'], hello + b'f 1\nc 1\nk 1\n')[:2], (0, trace))
-    tries.say('status 0: gen', tries.run(['gen', '0', '1', '1'])[::2], (0, b''))
-    tries.say('status 0: gen, its numbers in their order', tries.run(['gen', '0', '1', '2'])[1].count(b'\np '), 2)
-    tries.say('status 0: tune, its numbers in their order', tries.run(['tune', '1', '2'])[1].splitlines()[:1], [b'user 1 claimed 1 none 0 retiled 1 refused 0'])
-    for words in [[], ['play'], ['help'], ['--help'], ['replay', 'read'], ['read', ''], ['gen'], ['gen', '1', '2'], ['gen', '1', '0', '1'], ['gen', '1', '1', '1', '1'], ['stream', '1'], ['tune', '9', '1'], ['tune', '1']]:
-        tries.say(f'status 2: {words}', tries.run(words, hello), lambda found: found[:2] == (2, b'') and found[2].startswith(USAGE) and found[2].count(b'\n') == 1)
-    tries.say('status 3: replay', tries.run(['replay'], hello + b'p 1 10:5\n'), (3, b'', b'line 6: reserved field 10\n'))
-    tries.say('status 3: run', tries.run(['run'], hello + b'x 1\n'), (3, b'', b'line 6: not under run\n'))
-    tries.say('status 3: read', tries.run(['read'], trace[:-1])[:2], (3, b''))
-    tries.say('status 3: check', tries.run(['check'], hello)[::2], lambda found: found[0] == 3 and found[1].count(b'\n') == 1)
-    tries.say('status 3: stream', tries.run(['stream'], STREAM[:-1]), (3, b'', b'offset 22: no end\n'))
-    tries.say('status 6: replay', tries.run(['replay'], STALL), (6, b'', b'stalled: writer 2\n'))
-    tries.say('status 6: clone', tries.run(['clone'], STALL), (6, b'', b'stalled: writer 2\n'))
-    for command in ['replay', 'run', 'read', 'check', 'stream', 'clone']:
-        tries.say(f'status 7: {command}', tries.run([command], b'\n' * (MOST + 1)), (7, b'', b'input too long\n'))
-    tries.say('the most that may be read', tries.run(['replay'], b'\n' * MOST)[0], 0)
+    hello, trace = example('hello.scenario'), example('hello.trace')
+    words = [[], ['play'], ['help'], ['--help'], ['replay', 'read'], ['read', ''], ['gen'], ['gen', '1', '2'], ['gen', '1', '0', '1'],
+             ['gen', '1', '1', '1', '1'], ['stream', '1'], ['tune', '9', '1'], ['tune', '1'], ['gen', '0', '1', '2'], ['tune', '1', '2']]
+    cases = [case(' '.join(line) or 'no word', line, hello) for line in words]
+    cases += [case(f'{word}, hello', [word], hello) for word in ('replay', 'run', 'clone')]
+    cases += [case('read, hello', ['read'], trace), case('check, hello', ['check'], hello + b'==\n' + trace)]
+    for one in [*cases, *tries.large, *tries.short, *tries.ended]:
+        name = f'status {one.wanted.status}: {one.name}'
+        if tries.is_tried(name):
+            tries.say(name, tries.run(one.words, one.input), one.wanted)
+    for word in READING:
+        if tries.is_tried(f'status 7: {word}'):
+            tries.say(f'status 7: {word}', tries.run([word], b'\n' * (MOST + 1)), Answer(7, b'', b'input too long\n'))
+    if tries.is_tried('the most that may be read'):
+        tries.say('the most that may be read', tries.run(['replay'], b'\n' * MOST), Answer(0))
 
 
-def inputs(tries):
-    """Inputs that can't be read, and one that comes a byte at a time."""
-    for command in ['replay', 'run', 'read', 'check', 'stream', 'clone']:
-        folder = os.open(TOP, os.O_RDONLY)
-        tries.say(f'a folder as input of {command}', tries.run([command], stdin=folder), (4, b'', b'read fault\n'))
-        os.close(folder)
-        closed = subprocess.run(['sh', '-c', f'exec "$0" {command} <&-', tries.program], capture_output=True, timeout=60)
-        tries.say(f'a closed input of {command}', (closed.returncode, closed.stdout, closed.stderr), (4, b'', b'read fault\n'))
-    child = subprocess.Popen([tries.program, 'replay'], stdin=subprocess.PIPE, stdout=subprocess.PIPE, stderr=subprocess.PIPE)
-    for byte in example('hello.scenario'):
+def inputs(tries: Tries) -> None:
+    """Inputs that can't be read: a command that reads none goes on."""
+    for one in tries.large:
+        right = Answer(4, b'', READ_FAULT) if one.words[0] in READING else one.wanted
+        if tries.is_tried(f'a folder as input: {one.name}'):
+            folder = os.open(TOP, os.O_RDONLY)
+            tries.say(f'a folder as input: {one.name}', tries.run(one.words, stdin=folder), right)
+            os.close(folder)
+        if tries.is_tried(f'a closed input: {one.name}'):
+            tries.say(f'a closed input: {one.name}', tries.run_by_shell(one.words, b'', '<&-'), right)
+
+
+def slow_inputs(tries: Tries) -> None:
+    """Inputs that come a byte at a time: a few bytes a second apart, and more of them faster."""
+    for seconds, cases in [(1, tries.short), (0.005, tries.ended)]:
+        named = [(f'a byte each {seconds} s: {one.name}', one) for one in cases if one.words[0] in READING]
+        tasks = [threading.Thread(target=slow_input, args=(tries, name, one, seconds)) for name, one in named if tries.is_tried(name)]
+        for task in tasks:
+            task.start()
+        for task in tasks:
+            task.join()
+
+
+def slow_input(tries: Tries, name: str, one: Case, seconds: float) -> None:
+    child = subprocess.Popen([tries.program, *one.words], stdin=subprocess.PIPE, stdout=subprocess.PIPE, stderr=subprocess.PIPE)
+    for byte in one.input:
         child.stdin.write(bytes([byte]))
         child.stdin.flush()
-        time.sleep(0.005)
-    taken, _ = child.communicate(timeout=60)
-    tries.say('an input that comes a byte at a time', (child.returncode, taken), (0, example('hello.trace')))
+        time.sleep(seconds)
+    output, text = child.communicate(timeout=60)
+    tries.say(name, Answer(child.returncode, output, text), one.wanted)
 
 
-def full_disks(tries):
-    """A disk that is full from the start, and a file that may not grow past a limit."""
+def full_disks(tries: Tries) -> None:
+    """A disk that is full from the start, under the trace and under the text."""
     with open('/dev/full', 'wb') as full:
-        for words, text in [(['replay'], tries.many), (['run'], tries.many), (['read'], tries.trace), (['check'], tries.many + b'==\n' + tries.trace), (['gen', '1', '2', '3'], b''), (['stream'], STREAM)]:
-            tries.say(f'a full disk under {words[0]}', tries.run(words, text, stdout=full)[::2], lambda found: found[0] == 5 and found[1].endswith(b'write fault\n'))
-        tries.say('a full disk under the report', tries.run(['replay'], tries.many, stderr=full)[:2], (5, tries.trace))
-        tries.say('a full disk under a line', tries.run(['play'], stderr=full)[:2], (2, b''))
-    for most in [0, 1, 4096, 100_000, len(tries.trace) - 1]:
-        for ignored in [True, False]:
-            name, found = f"a file of at most {most} bytes, its signal {'ignored' if ignored else 'not ignored'}", limited_file(tries, most, ignored)
-            status = 5 if ignored else -signal.SIGXFSZ
-            tries.say(name, found, lambda found, status=status, most=most: found[0] == status and len(found[1]) <= most and tries.is_front(found[1]))
+        for one in [*tries.large, *tries.ended]:
+            if tries.is_tried(f'a full disk: {one.name}'):
+                right = Answer(5, b'', WRITE_FAULT) if one.wanted.output else one.wanted
+                tries.say(f'a full disk: {one.name}', tries.run(one.words, one.input, stdout=full), right)
+            if tries.is_tried(f'a full disk under the text: {one.name}'):
+                right = Answer(5 if one.reports else one.wanted.status, one.wanted.output)
+                tries.say(f'a full disk under the text: {one.name}', tries.run(one.words, one.input, stderr=full), right)
 
 
-def limited_file(tries, most, ignored):
-    def set_up():
-        signal.signal(signal.SIGXFSZ, signal.SIG_IGN if ignored else signal.SIG_DFL)
-        resource.setrlimit(resource.RLIMIT_FSIZE, (most, most))
-    with tempfile.TemporaryFile() as file:
-        status = tries.run(['replay'], tries.many, stdout=file, preexec_fn=set_up, restore_signals=False)[0]
+def growing_files(tries: Tries) -> None:
+    """A file that may not grow past a limit: the trace takes what there is room for. The signal ends the program, unless it is ignored."""
+    for one in tries.large:
+        for most in [*(size for size in SIZES if size < len(one.wanted.output)), len(one.wanted.output) - 1]:
+            for ignored in (True, False):
+                name = f"a file of at most {most} bytes, its signal {'ignored' if ignored else 'not ignored'}: {one.name}"
+                if tries.is_tried(name):
+                    right = Answer(5, one.wanted.output[:most], WRITE_FAULT) if ignored else Answer(-signal.SIGXFSZ, one.wanted.output[:most])
+                    limit = limited(resource.RLIMIT_FSIZE, most, signal.SIGXFSZ, ignored)
+                    tries.say(name, into_file(tries, one, preexec_fn=limit, restore_signals=False), right)
+
+
+def into_file(tries: Tries, one: Case, folder: str | None = None, **how) -> Answer:
+    with tempfile.TemporaryFile(dir=folder) as file:
+        done = tries.run(one.words, one.input, stdout=file, **how)
         file.seek(0)
-        return status, file.read()
+        return Answer(done.status, file.read(), done.text)
 
 
-def pipes(tries):
-    """A pipe whose reader goes after ten bytes, and descriptors that are closed."""
-    for ignored in [True, False]:
-        status, taken = broken_pipe(tries, ignored)
-        # The program ignores the signal itself.
-        tries.say(f"a pipe that nobody reads on, its signal {'ignored' if ignored else 'not ignored'}", (status, tries.is_front(taken)), (5, True))
-    closed = subprocess.run(['sh', '-c', 'exec "$0" replay >&-', tries.program], input=tries.many, capture_output=True, timeout=60)
-    tries.say('a closed standard output', (closed.returncode, closed.stderr.endswith(b'write fault\n')), (5, True))
-    closed = subprocess.run(['sh', '-c', 'exec "$0" replay 2>&-', tries.program], input=tries.many, capture_output=True, timeout=60)
-    tries.say('a closed standard error under the report', (closed.returncode, closed.stdout), (5, tries.trace))
-    closed = subprocess.run(['sh', '-c', 'exec "$0" play 2>&-', tries.program], capture_output=True, timeout=60)
-    tries.say('a closed standard error under a line', (closed.returncode, closed.stdout), (2, b''))
+def small_disks(tries: Tries) -> None:
+    """A disk of 16 KB, where one can be mounted."""
+    name = 'a disk of 16 KB'
+    if not any(tries.is_tried(f'{name}: {one.name}') for one in tries.large):
+        return
+    with tempfile.TemporaryDirectory() as folder:
+        if subprocess.run(['mount', '-t', 'tmpfs', '-o', 'size=16k', 'tmpfs', folder], capture_output=True, check=False).returncode != 0:
+            print(f'left   {name}: it takes the rights to mount one', flush=True)
+            return
+        try:
+            for one in [one for one in tries.large if len(one.wanted.output) > 16_384]:
+                found = into_file(tries, one, folder)
+                good = (found.status, found.text) == (5, WRITE_FAULT) and 0 < len(found.output) <= 16_384 and one.wanted.output.startswith(found.output)
+                tries.say_whether(f'{name}: {one.name}', good, found, 'a front part')
+        finally:
+            subprocess.run(['umount', folder], check=False)
 
 
-def broken_pipe(tries, ignored):
-    def set_up():
-        signal.signal(signal.SIGPIPE, signal.SIG_IGN if ignored else signal.SIG_DFL)
-    child = subprocess.Popen([tries.program, 'replay'], stdin=subprocess.PIPE, stdout=subprocess.PIPE, stderr=subprocess.DEVNULL, preexec_fn=set_up, restore_signals=False)
-    feeder = threading.Thread(target=feed, args=(child.stdin, tries.many))
+def closed_ends(tries: Tries) -> None:
+    """Standard output and standard error that are closed from the start."""
+    for one in [*tries.large, *tries.ended]:
+        if tries.is_tried(f'a closed output: {one.name}'):
+            right = Answer(5, b'', WRITE_FAULT) if one.wanted.output else one.wanted
+            tries.say(f'a closed output: {one.name}', tries.run_by_shell(one.words, one.input, '>&-'), right)
+        if tries.is_tried(f'a closed text: {one.name}'):
+            right = Answer(5 if one.reports else one.wanted.status, one.wanted.output)
+            tries.say(f'a closed text: {one.name}', tries.run_by_shell(one.words, one.input, '2>&-'), right)
+        if tries.is_tried(f'both closed: {one.name}'):
+            right = Answer(5 if one.reports or one.wanted.output else one.wanted.status)
+            tries.say(f'both closed: {one.name}', tries.run_by_shell(one.words, one.input, '>&- 2>&-'), right)
+
+
+def pipes(tries: Tries) -> None:
+    """Pipes whose reader is gone, from the start or behind ten bytes. The program ignores the signal, whoever started it."""
+    for one in [*tries.large, *tries.ended]:
+        for ignored in (True, False):
+            signalled = f"its signal {'ignored' if ignored else 'not ignored'}"
+            start = {'preexec_fn': limited(-1, 0, signal.SIGPIPE, ignored), 'restore_signals': False}
+            if tries.is_tried(f'a pipe without reader, {signalled}: {one.name}'):
+                right = Answer(5, b'', WRITE_FAULT) if one.wanted.output else one.wanted
+                tries.say(f'a pipe without reader, {signalled}: {one.name}', into_shut_pipe(tries, one, 'stdout', start), right)
+            if tries.is_tried(f'a pipe without reader under the text, {signalled}: {one.name}'):
+                right = Answer(5 if one.reports else one.wanted.status, one.wanted.output)
+                tries.say(f'a pipe without reader under the text, {signalled}: {one.name}', into_shut_pipe(tries, one, 'stderr', start), right)
+            if len(one.wanted.output) > 200_000 and tries.is_tried(f'a pipe that is read for ten bytes, {signalled}: {one.name}'):
+                right = Answer(5, one.wanted.output[:10], WRITE_FAULT)
+                tries.say(f'a pipe that is read for ten bytes, {signalled}: {one.name}', into_short_pipe(tries, one, start), right)
+
+
+def into_shut_pipe(tries: Tries, one: Case, end: str, start: dict) -> Answer:
+    reader, writer = os.pipe()
+    os.close(reader)
+    found = tries.run(one.words, one.input, **{end: writer}, **start)
+    os.close(writer)
+    return found
+
+
+def into_short_pipe(tries: Tries, one: Case, start: dict) -> Answer:
+    child = subprocess.Popen([tries.program, *one.words], stdin=subprocess.PIPE, stdout=subprocess.PIPE, stderr=subprocess.PIPE, **start)
+    feeder = threading.Thread(target=feed, args=(child.stdin, one.input))
     feeder.start()
-    taken = child.stdout.read(10)
+    output = os.read(child.stdout.fileno(), 10)
     child.stdout.close()
     feeder.join()
-    return child.wait(timeout=60), taken
+    text = child.stderr.read()
+    child.stderr.close()
+    return Answer(child.wait(timeout=60), output, text)
 
 
-def feed(pipe, text):
+def feed(pipe, text: bytes) -> None:
     try:
         pipe.write(text)
         pipe.close()
@@ -156,27 +299,28 @@ def feed(pipe, text):
         pass
 
 
-def little_memory(tries):
-    """An address space of so many MB: out of memory with nothing written, or all of it. A run whose threads can't be started is out of memory too."""
-    commands = [(['replay'], tries.many), (['run'], tries.many), (['read'], tries.trace), (['check'], tries.many + b'==\n' + tries.trace), (['gen', '1', '2', '3'], b'')]
-    for words, text in commands:
-        usual, statuses, good = tries.run(words, text), [], True
-        for megabytes in [10, 15, 20, 30, 40, 60, 80, 120, 160, 240, 320, 400, 500]:
-            limit = megabytes * 1_000_000
-            found = tries.run(words, text, preexec_fn=lambda limit=limit: resource.setrlimit(resource.RLIMIT_AS, (limit, limit)))
-            statuses.append(found[0])
-            whole = found[0] == 0 and (words[0] == 'run' or found == usual)
-            good = good and (whole or found == (1, b'', b'out of memory\n'))
-        tries.say(f'{words[0]} with 10 to 500 MB, statuses {statuses}', good, True)
+def little_memory(tries: Tries) -> None:
+    """An address space of so many MB: out of memory with nothing written, or all of it. Where a thread can't be started it is out of memory too."""
+    for one in tries.large:
+        statuses, wrong = [], []
+        if not tries.is_tried(f'10 to 500 MB: {one.name}'):
+            continue
+        for megabytes in MEGABYTES:
+            found = tries.run(one.words, one.input, preexec_fn=limited(resource.RLIMIT_AS, megabytes * 1_000_000))
+            statuses.append(found.status)
+            if found not in (one.wanted, Answer(1, b'', NO_MEMORY)):
+                wrong.append(found)
+        counts = ', '.join(f'{statuses.count(status)} of status {status}' for status in sorted(set(statuses)))
+        tries.say_whether(f'10 to 500 MB: {one.name}, {counts}', not wrong, wrong[:1], 'all, or out of memory')
 
 
-def main():
+def main() -> int:
     if len(sys.argv) < 2:
         sys.exit(__doc__)
     tries = Tries(os.path.abspath(sys.argv[1]), sys.argv[2] if len(sys.argv) > 2 else '')
-    for part in [each_status, inputs, full_disks, pipes, little_memory]:
+    for part in [each_status, inputs, slow_inputs, full_disks, growing_files, small_disks, closed_ends, pipes, little_memory]:
         part(tries)
-    print(f'{tries.wrong} wrong')
+    print(f'{tries.count} tries, {tries.wrong} wrong')
     return 1 if tries.wrong else 0
 
 
