@@ -96,6 +96,16 @@ def ended_cases() -> list[Case]:
     return [case('no command', ['play']), *refused, *stalled]
 
 
+def roomy_cases() -> list[Case]:
+    """Each command with buffers of 256 MB, or with an input of 30 MB, where it has any."""
+    lines = b'buffer 65536 ring\n' * 4 + b'producer 64 65536 1\nwriter 1 4 drop\np 1 8:1\n'
+    config = b'buffers { size_kb: 65536 }\n' * 4 + b'data_sources { config { target_buffer: 3 } }\n==\n'
+    records = record(b'\x0a' + varint(1_000_000) + bytes(1_000_000) + b'\x50\x02') * 30
+    return [case('replay', ['replay'], lines), case('run', ['run'], lines), case('clone', ['clone'], lines + b'f 1\nc 1\nk 4\n'), case('read', ['read'], records),
+            case('check', ['check'], b'#' + b'x' * 30_000_000 + b'\n==\n'), case('gen', ['gen', '7', '8', '1000']),
+            case('stream', ['stream'], config + commit(0, b'\x40\x05').replace(b'\x01\x01', b'\x01\x04', 1) + CLOSE), case('tune', ['tune', '1', '2'])]
+
+
 def example(name: str) -> bytes:
     with open(os.path.join(TOP, 'examples', name), 'rb') as file:
         return file.read()
@@ -114,7 +124,7 @@ def limited(kind: int, most: int, wanted: int | None = None, ignored: bool = Tru
 class Tries:
     def __init__(self, program: str, wanted: str):
         self.program, self.wanted, self.wrong, self.count = program, wanted, 0, 0
-        self.large, self.short, self.ended = large_cases(), short_cases(), ended_cases()
+        self.large, self.short, self.ended, self.roomy = large_cases(), short_cases(), ended_cases(), roomy_cases()
 
     def run(self, words, text=b'', **how) -> Answer:
         if 'stdin' not in how:
@@ -291,6 +301,27 @@ def into_short_pipe(tries: Tries, one: Case, start: dict) -> Answer:
     return Answer(child.wait(timeout=60), output, text)
 
 
+def signals(tries: Tries) -> None:
+    """A signal that ends the program while it writes: no line, and a front part of the output."""
+    for one in tries.large:
+        for wanted in (signal.SIGINT, signal.SIGTERM, signal.SIGKILL):
+            name = f'{wanted.name} while it writes: {one.name}'
+            if len(one.wanted.output) > 200_000 and tries.is_tried(name):
+                found = ended_by(tries, one, wanted)
+                good = (found.status, found.text) == (-wanted, b'') and 0 < len(found.output) < len(one.wanted.output)
+                tries.say_whether(name, good and one.wanted.output.startswith(found.output), found, 'a front part')
+
+
+def ended_by(tries: Tries, one: Case, wanted: int) -> Answer:
+    """The program waits for its reader, behind what the pipe holds."""
+    child = subprocess.Popen([tries.program, *one.words], stdin=subprocess.PIPE, stdout=subprocess.PIPE, stderr=subprocess.PIPE)
+    feed(child.stdin, one.input)
+    first = child.stdout.read(1)
+    child.send_signal(wanted)
+    status = child.wait(timeout=60)
+    return Answer(status, first + child.stdout.read(), child.stderr.read())
+
+
 def feed(pipe, text: bytes) -> None:
     try:
         pipe.write(text)
@@ -301,7 +332,7 @@ def feed(pipe, text: bytes) -> None:
 
 def little_memory(tries: Tries) -> None:
     """An address space of so many MB: out of memory with nothing written, or all of it. Where a thread can't be started it is out of memory too."""
-    for one in tries.large:
+    for one in tries.roomy:
         statuses, wrong = [], []
         if not tries.is_tried(f'10 to 500 MB: {one.name}'):
             continue
@@ -318,7 +349,7 @@ def main() -> int:
     if len(sys.argv) < 2:
         sys.exit(__doc__)
     tries = Tries(os.path.abspath(sys.argv[1]), sys.argv[2] if len(sys.argv) > 2 else '')
-    for part in [each_status, inputs, slow_inputs, full_disks, growing_files, small_disks, closed_ends, pipes, little_memory]:
+    for part in [each_status, inputs, slow_inputs, full_disks, growing_files, small_disks, closed_ends, pipes, signals, little_memory]:
         part(tries)
     print(f'{tries.count} tries, {tries.wrong} wrong')
     return 1 if tries.wrong else 0
