@@ -9,8 +9,6 @@ mod checks;
 #[cfg(test)]
 mod clones;
 #[cfg(test)]
-mod faults;
-#[cfg(test)]
 mod fields;
 #[cfg(test)]
 mod first_ids;
