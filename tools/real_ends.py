@@ -75,15 +75,16 @@ def large_cases() -> list[Case]:
     replayed = case('replay', ['replay'], lines)
     sequences = b''.join(record(b'\x50' + varint(2 + i)) for i in range(6000))
     frames = b''.join(commit(i, b'\x0a' + varint(4000) + bytes([i]) * 4000) for i in range(100))
-    return [replayed, case('run', ['run'], lines), case('clone', ['clone'], lines + b'f 1\nc 1\nk 1\n'), case('read', ['read'], sequences),
-            case('check', ['check'], lines + b'==\n' + replayed.wanted.output), case('gen', ['gen', '7', '8', '1000']),
-            case('stream', ['stream'], CONFIG + frames + CLOSE), case('tune', ['tune', '1', '2'])]
+    return [replayed, case('run', ['run'], lines), case('clone', ['clone'], lines + b'f 1\nc 1\nk 1\n'),
+            case('read', ['read'], sequences), case('check', ['check'], lines + b'==\n' + replayed.wanted.output),
+            case('gen', ['gen', '7', '8', '1000']), case('stream', ['stream'], CONFIG + frames + CLOSE), case('tune', ['tune', '1', '2'])]
 
 
 def short_cases() -> list[Case]:
     """Each command that reads with a few bytes of input."""
-    return [case('replay', ['replay'], b'buffer 4 ring\n'), case('run', ['run'], b'buffer 4 ring\n'), case('clone', ['clone'], b'buffer 4 ring\n'),
-            case('read', ['read'], b'\x0a\x02\x50\x02'), case('check', ['check'], b'==\n\x0a\x02\x50\x07'), case('stream', ['stream'], b'==\n' + CLOSE)]
+    played = [case(word, [word], b'buffer 4 ring\n') for word in ('replay', 'run', 'clone')]
+    return [*played, case('read', ['read'], b'\x0a\x02\x50\x02'), case('check', ['check'], b'==\n\x0a\x02\x50\x07'),
+            case('stream', ['stream'], b'==\n' + CLOSE)]
 
 
 def ended_cases() -> list[Case]:
@@ -101,9 +102,10 @@ def roomy_cases() -> list[Case]:
     lines = b'buffer 65536 ring\n' * 4 + b'producer 64 65536 1\nwriter 1 4 drop\np 1 8:1\n'
     config = b'buffers { size_kb: 65536 }\n' * 4 + b'data_sources { config { target_buffer: 3 } }\n==\n'
     records = record(b'\x0a' + varint(1_000_000) + bytes(1_000_000) + b'\x50\x02') * 30
-    return [case('replay', ['replay'], lines), case('run', ['run'], lines), case('clone', ['clone'], lines + b'f 1\nc 1\nk 4\n'), case('read', ['read'], records),
-            case('check', ['check'], b'#' + b'x' * 30_000_000 + b'\n==\n'), case('gen', ['gen', '7', '8', '1000']),
-            case('stream', ['stream'], config + commit(0, b'\x40\x05').replace(b'\x01\x01', b'\x01\x04', 1) + CLOSE), case('tune', ['tune', '1', '2'])]
+    frame = commit(0, b'\x40\x05').replace(b'\x01\x01', b'\x01\x04', 1)      # to the last buffer
+    return [case('replay', ['replay'], lines), case('run', ['run'], lines), case('clone', ['clone'], lines + b'f 1\nc 1\nk 4\n'),
+            case('read', ['read'], records), case('check', ['check'], b'#' + b'x' * 30_000_000 + b'\n==\n'),
+            case('gen', ['gen', '7', '8', '1000']), case('stream', ['stream'], config + frame + CLOSE), case('tune', ['tune', '1', '2'])]
 
 
 def example(name: str) -> bytes:
@@ -134,7 +136,8 @@ class Tries:
         return Answer(done.returncode, done.stdout or b'', done.stderr or b'')
 
     def run_by_shell(self, words, text, ends) -> Answer:
-        done = subprocess.run(['sh', '-c', f'exec "$0" "$@" {ends}', self.program, *words], input=text, capture_output=True, timeout=60, check=False)
+        shell = ['sh', '-c', f'exec "$0" "$@" {ends}', self.program, *words]
+        done = subprocess.run(shell, input=text, capture_output=True, timeout=60, check=False)
         return Answer(done.returncode, done.stdout, done.stderr)
 
     def is_tried(self, name: str) -> bool:
@@ -146,7 +149,8 @@ class Tries:
 
     def say_whether(self, name: str, good: bool, found: Answer, right: object = '') -> None:
         self.wrong, self.count = self.wrong + (not good), self.count + 1
-        print(f"{'right' if good else 'WRONG'}  {name}" + ('' if good else f': found {str(found)[:300]}, wanted {str(right)[:300]}'), flush=True)
+        shown = '' if good else f': found {str(found)[:300]}, wanted {str(right)[:300]}'
+        print(f"{'right' if good else 'WRONG'}  {name}{shown}", flush=True)
 
 
 def each_status(tries: Tries) -> None:
@@ -220,7 +224,8 @@ def growing_files(tries: Tries) -> None:
             for ignored in (True, False):
                 name = f"a file of at most {most} bytes, its signal {'ignored' if ignored else 'not ignored'}: {one.name}"
                 if tries.is_tried(name):
-                    right = Answer(5, one.wanted.output[:most], WRITE_FAULT) if ignored else Answer(-signal.SIGXFSZ, one.wanted.output[:most])
+                    front = one.wanted.output[:most]
+                    right = Answer(5, front, WRITE_FAULT) if ignored else Answer(-signal.SIGXFSZ, front)
                     limit = limited(resource.RLIMIT_FSIZE, most, signal.SIGXFSZ, ignored)
                     tries.say(name, into_file(tries, one, preexec_fn=limit, restore_signals=False), right)
 
@@ -244,7 +249,8 @@ def small_disks(tries: Tries) -> None:
         try:
             for one in [one for one in tries.large if len(one.wanted.output) > 16_384]:
                 found = into_file(tries, one, folder)
-                good = (found.status, found.text) == (5, WRITE_FAULT) and 0 < len(found.output) <= 16_384 and one.wanted.output.startswith(found.output)
+                good = (found.status, found.text) == (5, WRITE_FAULT) and 0 < len(found.output) <= 16_384
+                good = good and one.wanted.output.startswith(found.output)
                 tries.say_whether(f'{name}: {one.name}', good, found, 'a front part')
         finally:
             subprocess.run(['umount', folder], check=False)
@@ -273,9 +279,10 @@ def pipes(tries: Tries) -> None:
             if tries.is_tried(f'a pipe without reader, {signalled}: {one.name}'):
                 right = Answer(5, b'', WRITE_FAULT) if one.wanted.output else one.wanted
                 tries.say(f'a pipe without reader, {signalled}: {one.name}', into_shut_pipe(tries, one, 'stdout', start), right)
-            if tries.is_tried(f'a pipe without reader under the text, {signalled}: {one.name}'):
+            name = f'a pipe without reader under the text, {signalled}: {one.name}'
+            if tries.is_tried(name):
                 right = Answer(5 if one.reports else one.wanted.status, one.wanted.output)
-                tries.say(f'a pipe without reader under the text, {signalled}: {one.name}', into_shut_pipe(tries, one, 'stderr', start), right)
+                tries.say(name, into_shut_pipe(tries, one, 'stderr', start), right)
             if len(one.wanted.output) > 200_000 and tries.is_tried(f'a pipe that is read for ten bytes, {signalled}: {one.name}'):
                 right = Answer(5, one.wanted.output[:10], WRITE_FAULT)
                 tries.say(f'a pipe that is read for ten bytes, {signalled}: {one.name}', into_short_pipe(tries, one, start), right)
@@ -331,7 +338,7 @@ def feed(pipe, text: bytes) -> None:
 
 
 def little_memory(tries: Tries) -> None:
-    """An address space of so many MB: out of memory with nothing written, or all of it. Where a thread can't be started it is out of memory too."""
+    """An address space of so many MB: out of memory with nothing written, as where a thread can't be started, or all of it."""
     for one in tries.roomy:
         statuses, wrong = [], []
         if not tries.is_tried(f'10 to 500 MB: {one.name}'):

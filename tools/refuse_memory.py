@@ -90,15 +90,18 @@ def each_command():
     """Small inputs, an outcome of each status among them, and the larger ones of examples/."""
     packets = SET + b'p 1 8:1\np 1 900{1:"x"*400}\n'
     raw = SET + b"raw 1 0 1 0 1 x'024005'\nraw 1 0 1 0 1 x'024006'\nq\n"
-    yield from [(['play'], b''), (['replay'], packets), (['replay'], raw), (['replay'], b'p 1\n'),
-                (['replay'], STALLS + b'p 1 8:1\nf 1\nc 1\nr 1\np 1 8:2\np 2 8:3\n'), (['replay'], example('day.scenario')), (['replay'], example('slow.scenario'))]
-    yield from [(['run'], packets), (['run'], b'producer 1 4096 14\nx 1\n'), (['run'], STALLS + b'p 1 8:1\np 1 8:2\nf 1\np 2 8:3\n'), (['run'], example('timeline.scenario'))]
-    yield from [(['read'], b'\x0a\x02\x50\x02'), (['read'], b'\x0a\x02\x50'), (['read'], example('day.trace'))]
-    yield from [(['check'], packets + b'==\n'), (['check'], packets), (['check'], example('day.scenario') + b'==\n' + example('day.trace'))]
-    yield from [(['gen', '0', '1', '1'], b''), (['gen', '7', '8', '200'], b'')]
-    yield from [(['stream'], example('out_of_order.stream')), (['stream'], example('hostile/two-sources.stream')), (['stream'], b'buffers { size_kb: 3 }\n==\n')]
-    yield from [(['clone'], packets + b'f 1\nc 1\nk 1\n'), (['clone'], raw + b'k 1\n'), (['clone'], STALLS + b'p 1 8:1\nk 1\np 2 8:2\n'), (['clone'], example('crash.clone'))]
-    yield from [(['tune', '1', '2'], b''), (['tune', '8', '100'], b'')]
+    yield from [(['play'], b''), (['gen', '0', '1', '1'], b''),
+                (['gen', '7', '8', '200'], b''), (['tune', '1', '2'], b''), (['tune', '8', '100'], b'')]
+    yield from [(['replay'], text) for text in (
+        packets, raw, b'p 1\n', STALLS + b'p 1 8:1\nf 1\nc 1\nr 1\np 1 8:2\np 2 8:3\n', example('day.scenario'), example('slow.scenario'))]
+    yield from [(['run'], text) for text in (
+        packets, b'producer 1 4096 14\nx 1\n', STALLS + b'p 1 8:1\np 1 8:2\nf 1\np 2 8:3\n', example('timeline.scenario'))]
+    yield from [(['read'], text) for text in (b'\x0a\x02\x50\x02', b'\x0a\x02\x50', example('day.trace'))]
+    yield from [(['check'], text) for text in (packets + b'==\n', packets, example('day.scenario') + b'==\n' + example('day.trace'))]
+    yield from [(['stream'], text) for text in (
+        example('out_of_order.stream'), example('hostile/two-sources.stream'), b'buffers { size_kb: 3 }\n==\n')]
+    yield from [(['clone'], text) for text in (
+        packets + b'f 1\nc 1\nk 1\n', raw + b'k 1\n', STALLS + b'p 1 8:1\nk 1\np 2 8:2\n', example('crash.clone'))]
 
 
 def given(words):
@@ -118,7 +121,8 @@ def main() -> int:
         for words, text in given(sys.argv[2:]) if len(sys.argv) > 3 else each_command():
             for which, said in [('REFUSED_CALL', 'alone'), ('REFUSED_FROM', 'with all behind')]:
                 last, noticed, wrong = refuse_each(program, words, text, shim, which)
-                print(f"{' '.join(words)}, {len(text)} bytes, each call {said}: {noticed} noticed up to the call {last}, {len(wrong)} wrong", flush=True)
+                name = f"{' '.join(words)}, {len(text)} bytes, each call {said}"
+                print(f'{name}: {noticed} noticed up to the call {last}, {len(wrong)} wrong', flush=True)
                 for nth, found in wrong[:12]:
                     print(f'  call {nth}: {str(found)[:300]}')
                 bad += len(wrong)
