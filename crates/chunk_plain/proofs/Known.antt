@@ -26,6 +26,7 @@ use Rattle.chunk_plain.specs.Drafts.{MayFollow, draft_at, head_at, published, en
 use Rattle.chunk_plain.specs.Stored.{Stored, stored_at}
 use Rattle.chunk_plain.specs.Shows.{claim_of, content_of, page_word}
 use Rattle.chunk_plain.specs.Plain.{IsLent, StandsWhole, world_after, read_as, IsKept}
+use Rattle.chunk_plain.specs.Words.{WasHad}
 use Rattle.chunk_plain.proofs.Kept.{claim_kept, claim_seen, claim_bit_free}
 use Rattle.chunk_plain.proofs.KeptWriter.{claimed_by, is_chunk, body_of_claimed, stamp_kept, begin_kept, lent_inside, body_kept, held_status, held_chunk, held_slot, header_kept, publish_kept, complete_kept, call_kept}
 use Rattle.chunk_plain.proofs.KeptService.{serviced_kept, look_kept, take_kept, learn_kept, reading_of, read_chunk, release_kept}
@@ -247,6 +248,19 @@ module _ (setup : Setup) (words : List ℕ) (slots : List Stored) (world : World
 
   pub told_moved : (next : World) (place chunk : ℕ) (view : WriterView) (to : Status) → place < length setup.writers → next ≡ moved world place view chunk to → next ≡ moved world place (writer next place) chunk to
   told_moved next place chunk view to inside is = is ∙ ap (λ v. moved world place v chunk to) (sym (view_now next place view inside (ap (λ (w : World). w.writers) is)))
+
+  -- somebody has a chunk whose claim is in vain
+  pub claim_had : (next : World) (place chunk found : ℕ) (at : Spot) → at ≡ spot setup chunk → IsLaid setup → place < length setup.writers → chunk < length setup.spots
+      → found ≡ get_or words at.page 0 → IsClaimed found at.place → next ≡ world_after world (Claim place chunk found false) → ∥ WasHad setup place chunk (writer next place) ∥₁
+  claim_had next place chunk found at at_is laid inside_w inside_c is claimed next_is =
+      ∥∥₁_map (claim_vain next place chunk found at at_is laid inside_w inside_c is claimed next_is) (λ k. record {
+        world = next;
+        writers = k.writers;
+        chunks = k.shown.chunk_count;
+        owned = k.owned;
+        view_is = refl;
+        had = λ free. claim_taken chunk found at at_is inside_c is claimed (ap (λ (w : World). status w chunk) (sym next_is) ∙ free);
+      })
 
   -- ---- take
 

@@ -24,7 +24,8 @@ use Rattle.chunk_plain.specs.Setup.{Setup, spot, producer_of, from_of, IsChunkOf
 use Rattle.chunk_plain.specs.Payload.{byte_at, byte_in, sealed_to}
 use Rattle.chunk_plain.specs.Views.{At, Ask, Content, BegunChunk, chunk_of, WriterView, Found, Look, ServiceView, taken_of, Noted, Arrive, Partial, Patched, Closed, Read, Committed}
 use Rattle.chunk_plain.specs.Steps.{claims, stamps, begins, redrafts, looks_at, takes_in, learns}
-use Rattle.chunk_plain.specs.Owned.{times}
+use Rattle.chunk_plain.specs.World.{World, Unclaimed, status, writer}
+use Rattle.chunk_plain.specs.Owned.{times, IsOwned}
 use Rattle.chunk_plain.specs.Drafts.{MayFollow, IsFound, StillHas, head_of, draft_at, head_at, published}
 use Rattle.chunk_plain.specs.Shows.{content_of}
 
@@ -81,6 +82,15 @@ pub record TriesClaim (setup : Setup) (chunk : ℕ) (won : Bool) (old new : Writ
   pub bit : bit_at found (CLAIM_BIT + (spot setup chunk).place) ≡ (if won then 0 else 1)
   pub fresh : won ≡ true → times chunk old.claimed ≡ 0
   pub view : new ≡ claims old chunk found won
+
+-- In some world of the table, in which each chunk is owned by exactly one, the writer at this place knows this and somebody has the chunk.
+pub record WasHad (setup : Setup) (place chunk : ℕ) (view : WriterView) : Type 0 where
+  pub world : World
+  pub writers : length world.writers ≡ length setup.writers
+  pub chunks : length world.chunks ≡ length setup.spots
+  pub owned : IsOwned world
+  pub view_is : writer world place ≡ view
+  pub had : status world chunk ≡ Unclaimed → ⊥
 
 -- the writer has claimed the chunk and not begun it
 abbrev pub HasClaimed : WriterView → ℕ → Type 0

@@ -13,7 +13,7 @@ ghost use Rattle.chunk_plain.specs.Owned.{times, held_count, IsOwned};
 ghost use Rattle.chunk_plain.specs.Drafts.{MayFollow, draft_at, head_at, published, ends_by, IsHolding};
 ghost use Rattle.chunk_plain.specs.Shows.{ShowsPage, ShowsHeader, ShowsPayload};
 ghost use Rattle.chunk_plain.specs.Meaning.{Meaning, IsWriterStep, IsServiceStep};
-ghost use Rattle.chunk_plain.specs.Words.{IsAtRest, IsServing, LearntAsFound, LooksAgree, TriesClaim, HasClaimed, IsBegun, BeginsChunk, KeepsSealed, IsPublished, PublishesBytes, completed_content, LooksAt, ShowsFound, IsTakenPayload, taken_content, TakesChunk, FindsOther, call_of, event_of, IsReadEvent, committed_of};
+ghost use Rattle.chunk_plain.specs.Words.{IsAtRest, IsServing, LearntAsFound, LooksAgree, TriesClaim, WasHad, HasClaimed, IsBegun, BeginsChunk, KeepsSealed, IsPublished, PublishesBytes, completed_content, LooksAt, ShowsFound, IsTakenPayload, taken_content, TakesChunk, FindsOther, call_of, event_of, IsReadEvent, committed_of};
 
 use crate::notes::{ServiceEvent, WriterCall};
 use crate::tokens::{Claimed, Held, NotComplete, Seen, Taken};
@@ -39,6 +39,7 @@ pub trait Words {
             (means.view self.old seat.old) (means.view self.new seat.new)) }
         ensures lost { IfNone result (TriesClaim (means.setup self.old) chunk false
             (means.view self.old seat.old) (means.view self.new seat.new)) }
+        ensures had { IfNone result (∥ WasHad (means.setup self.old) (means.place seat.old) chunk (means.view self.new seat.new) ∥₁) }
         ensures step { IsWriterStep means self.old seat.old self.new seat.new }
         ensures told_won { IfSome result (λ _. (world : World) → means.told self.old ≡ Some world → ∥ status world chunk ≡ Unclaimed ∥₁
             × (means.told self.new ≡ Some (moved world (means.place seat.old) (means.view self.new seat.new) chunk

@@ -22,7 +22,7 @@ use Rattle.chunk_words.specs.Rule.{IsManned, IsShared}
 use Rattle.chunk_words.specs.Moves.{Mine, is_clear, Asks, Claims}
 use Rattle.chunk_words.proofs.Bodies.{with_hand, in_before, bodies_stay}
 use Rattle.chunk_words.proofs.Turns.{IsWriterChange, noted_change, same_change, writer_turn}
-use Rattle.chunk_words.proofs.Leads.{claim_is, bit_held}
+use Rattle.chunk_words.proofs.Leads.{claim_is, bit_held, was_had}
 use Rattle.chunk_words.proofs.MailWords.{KeepsLetters, mail_loaded, mail_by_writer}
 use Rattle.chunk_words.proofs.WriterMoves.{claims_keep, page_is, writer_inside, world_inside, chunk_inside, hand_none}
 use Rattle.chunk_words.proofs.WriterEnds.{words_loaded}
@@ -60,8 +60,14 @@ asked_led setup marks world place chunk found false led inside_w inside_c held =
     led_on setup marks world (world_after world (Claim place chunk found false)) (ClaimsMove place chunk found) led (inside_w, inside_c)
     (claim_is world place chunk found false (status world chunk) (λ yes_. absurd cc) (λ _. held refl))
 
+-- and somebody has the chunk behind it
+asked_had : (world : World) (place chunk found : ℕ) (clear : Bool) → clear ≡ false → (status world chunk ≡ Unclaimed → ⊥)
+    → status (asked_world world place chunk found clear) chunk ≡ Unclaimed → ⊥
+asked_had world place chunk found true unclear held free = absurd cc
+asked_had world place chunk found false unclear held free = held free
+
 pub asks_allowed : (setup : Setup) (count id k chunk : ℕ) (v : WriterView) → chunk < length setup.spots
-    → Allows (IsShared setup) count id (Writer k 0 v, []) (front_place (spot setup chunk).page) (λ found. found) (Asks chunk (spot setup chunk).place (Writer k 0 v, []))
+    → Allows (IsShared setup) count id (Writer k 0 v, []) (front_place (spot setup chunk).page) (λ found. found) (Asks setup chunk (Writer k 0 v, []))
 asks_allowed setup count id k chunk v inside s r deep at small =
     let at_ = spot setup chunk in let found = get_or s.words (front_place at_.page) 0 in let clear = is_clear found at_.place in
     let world = r.world in let f = r.manned.each id (Writer k 0 v) at in
@@ -73,7 +79,8 @@ asks_allowed setup count id k chunk v inside s r deep at small =
     let held : clear ≡ false → status world chunk ≡ Unclaimed → ⊥ = λ unclear. bit_held found at_.place (status world chunk) bit (set_ unclear) in
     let change = asked_change world k chunk found clear w_inside in
     let turn = writer_turn setup world next r.roll s.views id k 0 0 v (asked_view (writer world k) chunk found clear) r.manned at
-    change (λ d e. absurd (omega arith)) in (
+    change (λ d e. absurd (omega arith)) in
+    let kept = asked_kept setup r.front r.slots world k chunk found clear r.laid r.kept inside_w inside (page_is setup s r chunk inside) set_ in (
       Writer k 0 (asked_view v chunk found clear),
       keeps,
       tt,
@@ -84,26 +91,35 @@ asks_allowed setup count id k chunk v inside s r deep at small =
         roll = roll;
         laid = r.laid;
         led = asked_led setup r.roll.marks world k chunk found clear r.led w_inside c_inside held;
-        kept = asked_kept setup r.front r.slots world k chunk found clear r.laid r.kept inside_w inside (page_is setup s r chunk inside) set_;
+        kept = kept;
         words = words_loaded setup s.words r.front r.slots (front_place at_.page) r.words;
         mail = mail_by_writer setup world next (set s.words (front_place at_.page) found) k (asked_view (writer world k) chunk found clear) change
             (asked_keep (writer world k) chunk found clear) (mail_loaded setup world s.words (front_place at_.page) r.mail);
         bodies = bodies_stay setup s.homes r.slots r.slots r.roll roll r.bodies (λ d. refl) (λ d. in_before r.roll k 0 d (hand_none r.roll k d f.2));
         manned = subst (λ z. IsManned setup next roll (set s.views id (Writer k 0 (asked_view z chunk found clear)))) (sym f.0) turn;
       },
-      refl,
+      record {
+        had = λ unclear. was_had setup r.front r.slots next k chunk (asked_view v chunk found clear) kept
+            (change.mine ∙ ap (λ z. asked_view z chunk found clear) (sym f.0)) (asked_had world k chunk found clear unclear (held unclear));
+        new_is = refl;
+      },
     )
 
+-- a word with the claim bit set isn't clear
+pub seen_claimed : (found place : ℕ) → IsClaimed found place → is_clear found place ≡ false
+seen_claimed found place claimed = grind (arith, nat_tests, claimed)
+
 -- a look that found the claim bit set was the claim
-pub asked_in_vain : (chunk place found : ℕ) (me new : Mine) → Asks chunk place me found new → IsClaimed found place → new ≡ (by_writer 0 (λ view. claims view chunk found false) me.0, [])
-asked_in_vain chunk place found me new asked claimed =
-    let unclear : is_clear found place ≡ false = grind (arith, nat_tests, claimed) in
-    asked ∙ ap (λ clear. let m : Mine = (by_writer 0 (λ view. asked_view view chunk found clear) me.0, []) in m) unclear
+pub asked_in_vain : (setup : Setup) (chunk found : ℕ) (me new : Mine) → Asks setup chunk me found new → IsClaimed found (spot setup chunk).place
+    → new ≡ (by_writer 0 (λ view. claims view chunk found false) me.0, [])
+asked_in_vain setup chunk found me new asked claimed =
+    asked.new_is ∙ ap (λ clear. let m : Mine = (by_writer 0 (λ view. asked_view view chunk found clear) me.0, []) in m) (seen_claimed found (spot setup chunk).place claimed)
 
 -- a claim behind a look that found it clear is what it is without the look
-pub claimed_behind : (chunk place seen found : ℕ) (me asked new : Mine) → Asks chunk place me seen asked → (IsClaimed seen place → ⊥) → Claims chunk place asked found new
-    → new ≡ (by_writer 0 (λ view. claims view chunk found (is_clear found place)) me.0, [])
-claimed_behind chunk place seen found me asked new looked unclaimed claimed =
+pub claimed_behind : (setup : Setup) (chunk seen found : ℕ) (me asked new : Mine) → Asks setup chunk me seen asked → (IsClaimed seen (spot setup chunk).place → ⊥)
+    → Claims setup chunk asked found new → new ≡ (by_writer 0 (λ view. claims view chunk found (is_clear found (spot setup chunk).place)) me.0, [])
+claimed_behind setup chunk seen found me asked new looked unclaimed claimed =
+    let place = (spot setup chunk).place in
     let clear : is_clear seen place ≡ true = grind (arith, nat_tests, unclaimed) in
-    let kept : asked ≡ (by_writer 0 (λ view. view) me.0, []) = looked ∙ ap (λ clear. let m : Mine = (by_writer 0 (λ view. asked_view view chunk seen clear) me.0, []) in m) clear in
+    let kept : asked ≡ (by_writer 0 (λ view. view) me.0, []) = looked.new_is ∙ ap (λ clear. let m : Mine = (by_writer 0 (λ view. asked_view view chunk seen clear) me.0, []) in m) clear in
     claimed.new_is ∙ ap (λ (m : Mine). let m' : Mine = (by_writer 0 (λ view. claims view chunk found (is_clear found place)) m.0, []) in m') kept

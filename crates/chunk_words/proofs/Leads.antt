@@ -1,17 +1,19 @@
 -- Each step of a seat is one move of a schedule or none: what each move asks for.
-use Rattle.std.proofs.Common.{◌≡◌, ℕ, ◌+◌, ◌≤◌, Bool, true, false, length, refl, ap, arith}
+use Rattle.std.proofs.Common.{◌≡◌, ℕ, ◌+◌, ◌≤◌, Bool, true, false, List, length, refl, ap, arith}
 use Rattle.std.specs.Int.{bit_at}
 use Rattle.commit_body.specs.declared.body.CommitBody.{CommitBody}
 use Rattle.chunk_plain.specs.declared.notes.ServiceEvent.{ServiceEvent}
 use Rattle.chunk_plain.specs.declared.notes.ServiceEvent.TheVariants as event
 use Rattle.chunk_plain.specs.declared.step.Step.TheVariants.{Claim}
+use Rattle.chunk_plain.specs.Setup.{Setup}
 use Rattle.chunk_plain.specs.Payload.{sealed_to}
 use Rattle.chunk_plain.specs.Views.{WriterView}
-use Rattle.chunk_plain.specs.World.{World, Status, Unclaimed, Claimed, Stamped, Writing, Ready, Reading}
+use Rattle.chunk_plain.specs.World.{World, Status, Unclaimed, Claimed, Stamped, Writing, Ready, Reading, status, writer}
 use Rattle.chunk_plain.specs.Drafts.{draft_at, head_at}
+use Rattle.chunk_plain.specs.Stored.{Stored}
 use Rattle.chunk_plain.specs.Shows.{claim_of, content_of}
-use Rattle.chunk_plain.specs.Words.{event_of}
-use Rattle.chunk_plain.specs.Plain.{world_after, StandsWhole}
+use Rattle.chunk_plain.specs.Words.{WasHad, event_of}
+use Rattle.chunk_plain.specs.Plain.{world_after, StandsWhole, IsKept}
 use Rattle.chunk_schedules.specs.Moves.{MayComplete, IsPlainNote, claimed_in}
 
 -- a claim wins exactly where nobody has the chunk
@@ -33,6 +35,24 @@ claim_is world place chunk found false (Reading other position content) free hel
 -- somebody has a chunk whose claim bit is set
 pub bit_held : (word place : ℕ) (is : Status) → bit_at word (32 + place) ≡ claim_of is → bit_at word (32 + place) ≡ 1 → is ≡ Unclaimed → ⊥
 bit_held word place is bit one free = let none : claim_of is ≡ 0 = ap claim_of free in absurd (omega (arith, bit, one, none))
+
+-- it has the chunk still behind a claim in vain
+pub vain_had : (world : World) (place chunk found : ℕ) (won : Bool) → won ≡ false → (status world chunk ≡ Unclaimed → ⊥)
+    → status (world_after world (Claim place chunk found won)) chunk ≡ Unclaimed → ⊥
+vain_had world place chunk found true lost held free = absurd cc
+vain_had world place chunk found false lost held free = held free
+
+-- what a writer knows in a world of the table in which somebody has the chunk
+pub was_had : (setup : Setup) (front : List ℕ) (slots : List Stored) (world : World) (place chunk : ℕ) (view : WriterView)
+    → IsKept setup front slots world → writer world place ≡ view → (status world chunk ≡ Unclaimed → ⊥) → WasHad setup place chunk view
+was_had setup front slots world place chunk view kept mine had = record {
+  world = world;
+  writers = kept.writers;
+  chunks = kept.shown.chunk_count;
+  owned = kept.owned;
+  view_is = mine;
+  had = had;
+}
 
 -- a chunk that stands whole may be completed
 pub may_complete : (from size place position : ℕ) (view : WriterView) (body : CommitBody) → StandsWhole size view position body

@@ -29,7 +29,7 @@ use Rattle.chunk_words.specs.Rule.{Roll, IsIn, IsOf, IsRead, IsManned, IsShared}
 use Rattle.chunk_words.specs.Moves.{is_clear, Claims, Stamps, Begins, SetsHeader, Publishes}
 use Rattle.chunk_words.proofs.Standing.{words_front, words_payload, words_body}
 use Rattle.chunk_words.proofs.Bodies.{put_same, with_hand, in_before, bodies_stay, bodies_out, bodies_back, body_here, body_else}
-use Rattle.chunk_words.proofs.Leads.{claim_is, bit_held}
+use Rattle.chunk_words.proofs.Leads.{claim_is, bit_held, vain_had, was_had}
 use Rattle.chunk_words.proofs.Telling.{stays_same, stays_more, stays_set}
 use Rattle.chunk_words.proofs.MailWords.{KeepsLetters, mail_apart, payload_below, mail_by_writer}
 use Rattle.chunk_words.proofs.Turns.{Still, IsWriterChange, moved_change, noted_change, writer_turn}
@@ -93,7 +93,7 @@ claims_keep view chunk found false = record { letters = refl; begun = omega arit
 
 pub claims_allowed : (setup : Setup) (count id k chunk mask : ℕ) (v : WriterView) → chunk < length setup.spots
     → ((word : ℕ) → ClaimsBit word (bit_or word mask) (spot setup chunk).place (spot setup chunk).layout) → ((word : ℕ) → KeepsOthers word (bit_or word mask) (spot setup chunk).place)
-    → Allows (IsShared setup) count id (Writer k 0 v, []) (front_place (spot setup chunk).page) (λ found. bit_or found mask) (Claims chunk (spot setup chunk).place (Writer k 0 v, []))
+    → Allows (IsShared setup) count id (Writer k 0 v, []) (front_place (spot setup chunk).page) (λ found. bit_or found mask) (Claims setup chunk (Writer k 0 v, []))
 claims_allowed setup count id k chunk mask v inside sets keep s r deep at small =
     let at_ = spot setup chunk in let found = get_or s.words (front_place at_.page) 0 in let new = bit_or found mask in
     let world = r.world in let f = r.manned.each id (Writer k 0 v) at in
@@ -107,8 +107,9 @@ claims_allowed setup count id k chunk mask v inside sets keep s r deep at small 
     let held : won ≡ false → status world chunk ≡ Unclaimed → ⊥ = λ no_. bit_held found at_.place (status world chunk)
     (subst (λ w. bit_at w (32 + at_.place) ≡ claim_of (status world chunk)) (sym is) (r.kept.shown.page chunk inside).claim) (grind (arith, nat_tests, no_)) in
     let kept = claim_kept setup r.front r.slots world k chunk found new claimed at_ refl r.laid r.kept inside_w inside is (sets found) (keep found) (set_is found at_.place) in
+    let change = claim_change world k chunk found won w_inside c_inside free in
     let turn = writer_turn setup world next r.roll s.views id k 0 0 v (claims (writer world k) chunk found won) r.manned at
-    (claim_change world k chunk found won w_inside c_inside free) (λ d e. absurd (omega arith)) in (
+    change (λ d e. absurd (omega arith)) in (
       Writer k 0 (claims v chunk found won),
       keeps,
       tt,
@@ -122,13 +123,15 @@ claims_allowed setup count id k chunk mask v inside sets keep s r deep at small 
         led = led_on setup r.roll.marks world next (ClaimsMove k chunk found) r.led (w_inside, c_inside) (claim_is world k chunk found won (status world chunk) free held);
         words = words_front setup s.words r.front r.slots at_.page new (page_front setup s r chunk inside) (front_many setup s r) r.words;
         mail = mail_by_writer setup world next (set s.words (front_place at_.page) new) k (claims (writer world k) chunk found won)
-            (claim_change world k chunk found won w_inside c_inside free) (claims_keep (writer world k) chunk found won)
+            change (claims_keep (writer world k) chunk found won)
             (mail_apart setup world s.words (front_place at_.page) new (let low = page_front setup s r chunk inside in omega (arith, low)) r.mail);
         bodies = bodies_stay setup s.homes r.slots r.slots r.roll (with_hand r.roll k 0) r.bodies (λ d. refl) (λ d. in_before r.roll k 0 d (hand_none r.roll k d f.2));
         manned = subst (λ z. IsManned setup next (with_hand r.roll k 0) (set s.views id (Writer k 0 (claims z chunk found won)))) (sym f.0) turn;
       },
       record {
         fresh = λ yes_. ap (λ (z : WriterView). times chunk z.claimed) f.0 ∙ ((r.kept.owned.owns k chunk).claimed ∙ ap (claims_of k) (free yes_));
+        had = λ no_. was_had setup (set r.front at_.page new) r.slots next k chunk (claims v chunk found won) kept
+            (change.mine ∙ ap (λ z. claims z chunk found won) (sym f.0)) (vain_had world k chunk found won no_ (held no_));
         new_is = refl;
       },
     )

@@ -20,7 +20,7 @@ use Rattle.chunk_plain.specs.Owned.{times, IsOwned}
 use Rattle.chunk_plain.specs.Drafts.{draft_at, head_at, ends_by, head_of}
 use Rattle.chunk_plain.specs.Shows.{IsBodyOf, content_of}
 use Rattle.chunk_plain.specs.Setup.{Setup, spot, sequence_of, from_of}
-use Rattle.chunk_plain.specs.Words.{LooksAt, call_of, event_of, committed_of}
+use Rattle.chunk_plain.specs.Words.{WasHad, LooksAt, call_of, event_of, committed_of}
 use Rattle.chunk_schedules.specs.Moves.{IsLastOf}
 use Rattle.chunk_words.specs.declared.moves.Move.{Move}
 use Rattle.chunk_words.specs.declared.moves.Move.TheVariants.{Ask, Claim, Stamp, Begin, SetHeader, Publish, Fetch, Complete as CompleteStep, Call as CallStep, Peek, Find, Know, Miss, Take, Load, Learn, Lift, Release, Event, NoteRead, Recall, Mark, Commit, LearnRequest, Answer, Request, NoteRequest, ReadAnswer, Compare}
@@ -71,15 +71,19 @@ pub record IsTakenWith (from place position size : ℕ) (header : ChunkHeader) (
 
 -- What each step tells of what was known and carried before it, the number that it found, and what is known and carried behind it.
 
--- The page word is found. Where it has the claim bit, that is a claim in vain; else nothing is noted of it.
-abbrev pub Asks : (chunk place : ℕ) → Mine → ℕ → Mine → Type 0
-Asks chunk place me found new =
-    new ≡ (by_writer 0 (λ view. if is_clear found place then view else claims view chunk found false) me.0, [])
+-- The page word is found. Where it has the claim bit, that is a claim in vain, of a chunk that somebody has; else nothing is noted of it.
+pub record Asks (setup : Setup) (chunk : ℕ) (me : Mine) (found : ℕ) (new : Mine) : Type 0 where
+  pub had : is_clear found (spot setup chunk).place ≡ false → WasHad setup (place_of me.0) chunk (view_of new.0)
+  pub new_is : new ≡ (
+    by_writer 0 (λ view. if is_clear found (spot setup chunk).place then view else claims view chunk found false) me.0,
+    [],
+  )
 
--- the claim bit is set; a chunk that was won was none that the writer has claimed already
-pub record Claims (chunk place : ℕ) (me : Mine) (found : ℕ) (new : Mine) : Type 0 where
-  pub fresh : is_clear found place ≡ true → times chunk (view_of me.0).claimed ≡ 0
-  pub new_is : new ≡ (by_writer 0 (λ view. claims view chunk found (is_clear found place)) me.0, [])
+-- The claim bit is set. A chunk that was won was none that the writer has claimed already; one that wasn't is one that somebody has.
+pub record Claims (setup : Setup) (chunk : ℕ) (me : Mine) (found : ℕ) (new : Mine) : Type 0 where
+  pub fresh : is_clear found (spot setup chunk).place ≡ true → times chunk (view_of me.0).claimed ≡ 0
+  pub had : is_clear found (spot setup chunk).place ≡ false → WasHad setup (place_of me.0) chunk (view_of new.0)
+  pub new_is : new ≡ (by_writer 0 (λ view. claims view chunk found (is_clear found (spot setup chunk).place)) me.0, [])
 
 -- the header is stored, and the slot is out with the writer: its body has room for a payload of this size
 pub record Stamps (chunk size : ℕ) (me new : Mine) : Type 0 where
@@ -294,8 +298,8 @@ watched _ = no_content
 
 -- what a seat knows behind a move that found this word
 abbrev pub After : Move → Mine → ℕ → Mine → Type 0
-After (Ask chunk place) me found new = Asks chunk place me found new
-After (Claim chunk place) me found new = Claims chunk place me found new
+After (Ask layout chunk) me found new = Asks layout.now chunk me found new
+After (Claim layout chunk) me found new = Claims layout.now chunk me found new
 After (Stamp chunk payload_size) me found new = Stamps chunk payload_size me new
 After (Begin chunk payload_size) me found new = Begins chunk payload_size me new
 After (SetHeader chunk position count flags) me found new = SetsHeader chunk position (record { count = count; flags = flags }) me new

@@ -9,14 +9,12 @@ use page_geometry::ChunkHeader;
 pub enum Move<'a> {
     /// The page word is read: a claim in vain where it has the chunk's claim bit.
     Ask {
+        layout: &'a Layout,
         chunk: u32,
-        /// Its place in its page.
-        place: u8,
     },
     Claim {
+        layout: &'a Layout,
         chunk: u32,
-        /// Its place in its page.
-        place: u8,
     },
     Stamp {
         chunk: u32,

@@ -7,7 +7,7 @@ ghost use Rattle.chunk_plain.specs.Setup.{spot, producer_of, IsChunkOf, id_at};
 ghost use Rattle.chunk_plain.specs.Payload.{byte_of, byte_in, sealed_to, HasFragments};
 ghost use Rattle.chunk_plain.specs.Drafts.{MayFollow, draft_at, head_at, published, ends_by, IsHolding};
 ghost use Rattle.chunk_plain.specs.Steps.{redrafts, with_head, completes, notes_call};
-ghost use Rattle.chunk_plain.specs.Words.{TriesClaim, HasClaimed, IsBegun, BeginsChunk};
+ghost use Rattle.chunk_plain.specs.Words.{TriesClaim, WasHad, HasClaimed, IsBegun, BeginsChunk};
 ghost use Rattle.chunk_plain.specs.Words.{KeepsSealed, IsPublished, PublishesBytes, completed_content, call_of};
 ghost use Rattle.chunk_words.specs.Knows.{view_of};
 ghost use Rattle.chunk_words.specs.Moves.{Stores, StaysOutside};
@@ -28,6 +28,7 @@ impl HostTable {
         ensures chunk { IfSome result (λ claimed. claimed.chunk ≡ chunk) }
         ensures won { IfSome result (λ _. TriesClaim self.now.layout chunk true (view_of seat.old.seat.me.0) (view_of seat.new.seat.me.0)) }
         ensures lost { IfNone result (TriesClaim self.now.layout chunk false (view_of seat.old.seat.me.0) (view_of seat.new.seat.me.0)) }
+        ensures had { IfNone result (∥ WasHad self.now.layout seat.old.place chunk (view_of seat.new.seat.me.0) ∥₁) }
         ensures seat { Sits self.now seat.new }
         ensures place { seat.new.place ≡ seat.old.place }
     {

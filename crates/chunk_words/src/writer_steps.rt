@@ -30,12 +30,12 @@ impl HostTable {
         requires chunk { chunk < length self.now.layout.spots }
         ensures seat { seat.new.seat.table_id ≡ seat.old.seat.table_id }
         ensures place { seat.new.place ≡ seat.old.place }
-        ensures me { Asks chunk (spot self.now.layout chunk).place seat.old.seat.me result seat.new.seat.me }
+        ensures me { Asks self.now.layout chunk seat.old.seat.me result seat.new.seat.me }
     {
         let spot = self.layout.spot(chunk);
         let step = Move::Ask {
+            layout: &self.layout,
             chunk,
-            place: spot.place,
         };
         let table = &self.table;
         make_load(
@@ -53,13 +53,13 @@ impl HostTable {
         requires chunk { chunk < length self.now.layout.spots }
         ensures seat { seat.new.seat.table_id ≡ seat.old.seat.table_id }
         ensures place { seat.new.place ≡ seat.old.place }
-        ensures me { Claims chunk (spot self.now.layout chunk).place seat.old.seat.me result seat.new.seat.me }
+        ensures me { Claims self.now.layout chunk seat.old.seat.me result seat.new.seat.me }
     {
         let spot = self.layout.spot(chunk);
         let mask = claim_mask(spot.place, spot.layout);
         let step = Move::Claim {
+            layout: &self.layout,
             chunk,
-            place: spot.place,
         };
         let at = self.page_index(spot.page);
         let table = &self.table;

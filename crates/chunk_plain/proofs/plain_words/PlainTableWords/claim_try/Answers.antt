@@ -43,6 +43,17 @@ returns-then-claimed-clause-lost c =
       view = known.view_now self.layout self.words.items self.slots.items self.told.world self.kept c.make_step.new.told.world place (claims (writer self.told.world place) c.args.chunk found false) c.requires.seat.inside (ap (λ (w : World). w.writers) next_is);
     }
 
+pub returns-then-claimed-clause-had : goal.returns-then-claimed-clause-had
+returns-then-claimed-clause-had c =
+    let self = c.args.self.now in
+    let at = c.spot-spot.result in let found = c.index-found.result.now in let place = c.args.seat.now.place in
+    let inside : at.page < length self.words.items = search rules in
+    let inside_c : c.args.chunk < length self.layout.spots = search rules in
+    let is : found ≡ get_or self.words.items at.page 0 = c.index-found.ensures ∙ get_or_default_zero self.words.items at.page found inside in
+    let next_is = subst (λ b. c.make_step.new.told.world ≡ world_after self.told.world (Claim place c.args.chunk found (not b))) c.if-claimed.true c.make_step.ensures.world in
+    known.claim_had self.layout self.words.items self.slots.items self.told.world self.kept c.make_step.new.told.world place c.args.chunk found at c.spot-spot.ensures.spot self.laid c.requires.seat.inside inside_c is
+    (c.claimed-claimed.ensures.0 c.if-claimed.true) next_is
+
 pub returns-then-claimed-clause-told_lost : goal.returns-then-claimed-clause-told_lost
 returns-then-claimed-clause-told_lost c = λ world e.
     let self = c.args.self.now in
