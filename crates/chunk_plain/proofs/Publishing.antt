@@ -1,15 +1,15 @@
 -- Payload words that are stored one behind another.
 use Rattle.std.proofs.Common.{◌≡◌, ℕ, ◌+◌, ◌-◌, ◌*◌, ◌/◌, ◌%◌, ◌<◌, ◌≤◌, inl, inr, List, ◌++◌, length, get_or, take, drop, set, sym, refl, ap, ap₂, subst, ◌∙◌, arith, ⊎_elim, length-set, length-append}
 use Rattle.std.proofs.lemmas.Bool.{cases_lt}
-use Rattle.std.proofs.lemmas.List.{get_or-set_same, get_or-take, get_or-drop, get_or_append_left, get_or-append_right, length-take-le, length-drop, drop-drop, take_rest}
-use native.Mathlib.Decide.{ℕ_discrete}
+use Rattle.std.proofs.lemmas.List.{get_or-set_same, get_or-set_other, get_or-take, get_or-drop, get_or_append_left, get_or-append_right, length-take-le, length-drop, drop-drop, take_rest}
+use native.Mathlib.Decide.{ℕ_discrete, dec_le}
 use mathlib.Core.Logic.{dite}
 use Rattle.chunk_plain.specs.Payload.{byte_of, byte_at, byte_in, sealed_to, StoredUpTo}
 use Rattle.chunk_plain.specs.Views.{Draft, WriterView, newcomer}
 use Rattle.chunk_plain.specs.World.{World, writer}
 use Rattle.chunk_plain.specs.Steps.{redrafts, drafted}
 use Rattle.chunk_plain.specs.Drafts.{draft_at}
-use Rattle.chunk_plain.specs.Words.{KeepsSealed, Publishes}
+use Rattle.chunk_plain.specs.Words.{KeepsSealed, StaysOutside, Publishes}
 use Rattle.chunk_plain.proofs.Sealing.{byte_stored, byte_left}
 
 pub stored_none : (copy : List ℕ) (first : ℕ) (words : List ℕ) → StoredUpTo copy first first words words
@@ -17,6 +17,8 @@ stored_none copy first words = record {
   count = refl;
   done = λ j least below inside. absurd (omega arith);
   others = λ j inside. inl refl;
+  before = λ other low. refl;
+  behind = λ other high. refl;
 }
 
 pub stored_next : (copy : List ℕ) (first index word : ℕ) (old new : List ℕ) → index < length new → first ≤ index
@@ -34,6 +36,8 @@ stored_next copy first index word old new inside order packed so_far =
       others = λ j in_copy. dite (ℕ_discrete (j / 8) index)
           (λ is. inr (here j is in_copy))
           (λ differs. ⊎_elim (λ as_before. inl (byte_left new index word j differs ∙ as_before)) (λ of_copy. inr (byte_left new index word j differs ∙ of_copy)) (so_far.others j in_copy));
+      before = λ other low. get_or-set_other new index other word 0 (omega arith) ∙ so_far.before other low;
+      behind = λ other high. get_or-set_other new index other word 0 (omega arith) ∙ so_far.behind other (omega arith);
     }
 
 -- words that were stored in a part of all, with bytes that begin at a place of the copy
@@ -73,6 +77,8 @@ stored_inside copy first whole old new order within room so_far =
           (λ (high : whole ≤ j / 8). inl (ap (λ w. byte_of w (j % 8)) (behind (j / 8) high)))
           (cases_lt (j / 8) whole))
           (cases_lt (j / 8) first);
+      before = before;
+      behind = behind;
     }
 
 -- the same of slices, as code has them
@@ -102,10 +108,26 @@ pub drafted_view : (world next : World) (place chunk position : ℕ) (draft : Dr
 drafted_view world next place chunk position draft is inside =
     ap (λ (w : World). writer w place) is ∙ get_or-set_same world.writers place (redrafts (writer world place) chunk position draft) newcomer inside
 
+-- the words that were stored are those with a byte of the range
+pub stored_range : (from to end : ℕ) (old new : List ℕ) → (from < to → 8 * end < to + 8) → (to ≤ from → end ≡ from / 8)
+    → ((other : ℕ) → other < from / 8 → get_or new other 0 ≡ get_or old other 0) → ((other : ℕ) → end ≤ other → get_or new other 0 ≡ get_or old other 0)
+    → StaysOutside from to old new
+stored_range from to end old new some none before behind index outside = dite (dec_le (index + 1) (from / 8))
+    (λ low. before index (omega arith))
+    (λ not_low. dite (dec_le end index)
+    (λ high. behind index high)
+    (λ not_high. absurd (dite (dec_le to from)
+    (λ empty. let end_is = none empty in omega arith)
+    (λ filled. let last = some (omega arith) in dite (dec_le from (8 * index))
+    (λ begins. outside (8 * index) begins (omega arith) (omega arith))
+    (λ begun. outside from (omega arith) (omega arith) (omega arith))))))
+
 -- all words of a range of bytes were stored
-pub published_range : (copy old new : List ℕ) (from to end : ℕ) → from ≤ to → to ≤ length copy → (from < to → to ≤ 8 * end) → StoredUpTo copy (from / 8) end old new → Publishes copy from to old new
-published_range copy old new from to end order inside ends so_far = record {
+pub published_range : (copy old new : List ℕ) (from to end : ℕ) → from ≤ to → to ≤ length copy → (from < to → to ≤ 8 * end) → 8 * end < to + 32
+    → StoredUpTo copy (from / 8) end old new → Publishes copy from to old new
+published_range copy old new from to end order inside ends most so_far = record {
   count = so_far.count;
-  range = λ j least below. so_far.done j (omega arith) (let most = ends (omega arith) in omega arith) (omega arith);
+  range = λ j least below. so_far.done j (omega arith) (let reaches = ends (omega arith) in omega arith) (omega arith);
   others = so_far.others;
+  apart = stored_range from (to + 24) end old new (λ less. omega arith) (λ none. absurd (omega arith)) so_far.before so_far.behind;
 }

@@ -16,11 +16,14 @@ byte_at words j = byte_of (slice_index_or words (j / 8) 0) (j % 8)
 abbrev pub byte_in : List ℕ → ℕ → ℕ
 byte_in bytes j = slice_index_or bytes j 0
 
--- the words from one place on, up to another one, were stored with the bytes of a copy; each other byte is as before, or the copy's
+-- the words from one place on, up to another one, were stored with the bytes of a copy, and no other word; each other byte is as before, or
+-- the copy's
 pub record StoredUpTo (copy : List ℕ) (first index : ℕ) (old new : List ℕ) : Type 0 where
   pub count : length new ≡ length old
   pub done : (j : ℕ) → 8 * first ≤ j → j < 8 * index → j < length copy → byte_at new j ≡ byte_in copy j
   pub others : (j : ℕ) → j < length copy → (byte_at new j ≡ byte_at old j) ⊎ (byte_at new j ≡ byte_in copy j)
+  pub before : (other : ℕ) → other < first → slice_index_or new other 0 ≡ slice_index_or old other 0
+  pub behind : (other : ℕ) → index ≤ other → slice_index_or new other 0 ≡ slice_index_or old other 0
 
 -- the first bytes, so many
 abbrev pub first_bytes : (ℕ → ℕ) → ℕ → List ℕ

@@ -1,5 +1,5 @@
 -- What a call on a table does to the views of its seats, and what the views have between two calls.
-use Rattle.std.specs.Prelude.{◌≡◌, ℕ, ◌+◌, ◌-◌, ◌*◌, ◌%◌, ◌^◌, ◌<◌, ◌≤◌, ◌⊎◌, Bool, true, Option, Some, None, List, [], length, map, vec_len, if◌then◌else◌}
+use Rattle.std.specs.Prelude.{◌≡◌, ℕ, ◌+◌, ◌-◌, ◌*◌, ◌/◌, ◌%◌, ◌^◌, ◌<◌, ◌≤◌, ◌≢◌, ◌⊎◌, Bool, true, Option, Some, None, List, [], length, map, vec_len, slice_index_or, if◌then◌else◌}
 use Rattle.std.specs.Int.{bit_at}
 use Rattle.trace_base.specs.declared.limits.TheConstants.{MAX_FRAGMENTS}
 use Rattle.page_geometry.specs.declared.chunk_header.TheConstants.{MAX_FLAGS}
@@ -118,12 +118,18 @@ KeepsSealed view position copy =
 abbrev pub IsPublished : WriterView → ℕ → List ℕ → Type 0
 IsPublished view position copy = (j : ℕ) → j < length copy → published view position j ≡ byte_in copy j
 
+-- words without a byte of the range are as they were
+abbrev pub StaysOutside : (from to : ℕ) → (old new : List ℕ) → Type 0
+StaysOutside from to old new = (index : ℕ) → ((j : ℕ) → from ≤ j → j < to → j / 8 ≢ index)
+    → slice_index_or new index 0 ≡ slice_index_or old index 0
+
 -- Some bytes of a copy were published: each byte of the range is the copy's now, and each other one is as before or the copy's, since words
--- are stored whole.
+-- are stored whole. Up to three words behind the range may be stored with it, and no other one is.
 pub record Publishes (copy : List ℕ) (from to : ℕ) (old new : List ℕ) : Type 0 where
   pub count : length new ≡ length old
   pub range : (j : ℕ) → from ≤ j → j < to → byte_at new j ≡ byte_in copy j
   pub others : (j : ℕ) → j < length copy → (byte_at new j ≡ byte_at old j) ⊎ (byte_at new j ≡ byte_in copy j)
+  pub apart : StaysOutside from (to + 24) old new
 
 -- and nothing else of the view changed
 pub record PublishesBytes (chunk position from to : ℕ) (copy : List ℕ) (old new : WriterView) : Type 0 where

@@ -89,6 +89,7 @@ pub fn stored_end(from: u32, to: u32, size: usize) -> usize
     requires small { size < 2 ^ 32 }
     ensures least { from / 8 ≤ result }
     ensures some { from < to → to ≤ 8 * result }
+    ensures most { 8 * result < to + 32 }
     ensures within { 8 * result < size + 8 }
 {
     let first = from as usize / 8;

@@ -1,8 +1,6 @@
 -- Payload words of a held chunk that are stored one behind another.
-use Rattle.std.proofs.Common.{◌≡◌, ℕ, ◌+◌, ◌*◌, ◌/◌, ◌<◌, ◌≤◌, List, [], length, set, get_or, subst, sym, refl, ap, ◌∙◌, arith}
-use native.Mathlib.Decide.{dec_le}
-use mathlib.Core.Logic.{dite}
-use Rattle.std.proofs.lemmas.List.{set-set, get_or-set_other}
+use Rattle.std.proofs.Common.{◌≡◌, ℕ, ◌+◌, ◌*◌, ◌<◌, ◌≤◌, List, [], length, set, subst, sym, ap, ◌∙◌}
+use Rattle.std.proofs.lemmas.List.{set-set}
 use Rattle.atomic_table.proofs.Lists.{set_again, set_here}
 use Rattle.chunk_plain.specs.Payload.{byte_of, byte_in}
 use Rattle.chunk_plain.specs.Views.{At, Held, Draft, WriterView}
@@ -13,7 +11,7 @@ use Rattle.chunk_plain.proofs.Holding.{redrafts_draft}
 use Rattle.chunk_plain.proofs.Lists.{at_inside}
 use Rattle.chunk_plain.proofs.Publishing.{stored_none, stored_next, sealed_stays}
 use Rattle.chunk_words.specs.Knows.{Knows, Writer, view_of, place_of, by_writer}
-use Rattle.chunk_words.specs.Moves.{Mine, KeepsWord, Publishes, Stores, StaysOutside}
+use Rattle.chunk_words.specs.Moves.{Mine, KeepsWord, Publishes, Stores}
 use Rattle.chunk_words.specs.Seats.{IsIdle}
 use Rattle.chunk_words.proofs.ServiceFinds.{word_byte}
 
@@ -35,8 +33,6 @@ stores_none place chunk position first copy me idle holding =
     record {
       words = (draft_at view position).words;
       stored = stored_none copy first (draft_at view position).words;
-      before = λ other low. refl;
-      behind = λ other high. refl;
       new_is = idle ∙ (ap (λ v. let m : Mine = (Writer place 0 v, []) in m) (sym (redrafts_same view chunk position holding))
           ∙ ap (λ p. let m : Mine = (Writer p 0 (redrafts view chunk position (draft_at view position)), []) in m) (sym place_is));
     }
@@ -75,23 +71,7 @@ stores_next chunk position first index word copy me mid new stores step holding 
     record {
       words = set words index word;
       stored = stored_next copy first index word (draft_at view position).words words inside order packed stores.stored;
-      before = λ other low. get_or-set_other words index other word 0 (omega arith) ∙ stores.before other low;
-      behind = λ other high. get_or-set_other words index other word 0 (omega arith) ∙ stores.behind other (omega arith);
       new_is = step.new_is ∙ (ap (λ (d : Draft). let m : Mine = (by_writer 0 (λ v. redrafts v chunk position (with_word d index word)) mid.0, []) in m) draft_is
           ∙ (ap (λ (k : Knows). let m : Mine = (by_writer 0 (λ v. redrafts v chunk position (with_word draft index word)) k, []) in m) (ap (λ (m : Mine). m.0) stores.new_is)
           ∙ ap (λ v. let m : Mine = (Writer (place_of me.0) 0 v, []) in m) (redrafts_twice view chunk position draft (with_word draft index word))));
     }
-
--- the words that were stored are those with a byte of the range
-pub stored_range : (from to end : ℕ) (old new : List ℕ) → (from < to → 8 * end < to + 8) → (to ≤ from → end ≡ from / 8)
-    → ((other : ℕ) → other < from / 8 → get_or new other 0 ≡ get_or old other 0) → ((other : ℕ) → end ≤ other → get_or new other 0 ≡ get_or old other 0)
-    → StaysOutside from to old new
-stored_range from to end old new some none before behind index outside = dite (dec_le (index + 1) (from / 8))
-    (λ low. before index (omega arith))
-    (λ not_low. dite (dec_le end index)
-    (λ high. behind index high)
-    (λ not_high. absurd (dite (dec_le to from)
-    (λ empty. let end_is = none empty in omega arith)
-    (λ filled. let last = some (omega arith) in dite (dec_le from (8 * index))
-    (λ begins. outside (8 * index) begins (omega arith) (omega arith))
-    (λ begun. outside from (omega arith) (omega arith) (omega arith))))))

@@ -1,5 +1,5 @@
 -- What each atomic step tells the seat that makes it.
-use Rattle.std.specs.Prelude.{◌≡◌, ◌≢◌, ℕ, ◌+◌, ◌*◌, ◌/◌, ◌%◌, ◌^◌, ◌<◌, ◌≤◌, ◌==◌, not, true, false, Bool, Option, Some, None, List, [], ◌∷◌, length, vec_len, slice_index_or, IfSome, if◌then◌else◌}
+use Rattle.std.specs.Prelude.{◌≡◌, ℕ, ◌+◌, ◌*◌, ◌/◌, ◌%◌, ◌^◌, ◌<◌, ◌≤◌, ◌==◌, not, true, false, Bool, Option, Some, None, List, [], ◌∷◌, length, vec_len, slice_index_or, IfSome, if◌then◌else◌}
 use Rattle.std.specs.Int.{bit_at}
 use Rattle.atomic_table.specs.Table.{Me}
 use Rattle.trace_model.specs.Calls.{Call}
@@ -119,14 +119,7 @@ pub record Publishes (chunk position index word : ℕ) (me new : Mine) : Type 0 
 pub record Stores (chunk position first index : ℕ) (copy : List ℕ) (me new : Mine) : Type 0 where
   pub words : List ℕ
   pub stored : StoredUpTo copy first index (draft_at (view_of me.0) position).words words
-  pub before : (other : ℕ) → other < first → slice_index_or words other 0 ≡ slice_index_or (draft_at (view_of me.0) position).words other 0
-  pub behind : (other : ℕ) → index ≤ other → slice_index_or words other 0 ≡ slice_index_or (draft_at (view_of me.0) position).words other 0
   pub new_is : new ≡ (by_writer 0 (λ view. redrafts view chunk position (with_words (draft_at view position) words)) me.0, [])
-
--- payload words without a byte of the range are as they were
-abbrev pub StaysOutside : (from to : ℕ) → (old new : List ℕ) → Type 0
-StaysOutside from to old new = (index : ℕ) → ((j : ℕ) → from ≤ j → j < to → j / 8 ≢ index)
-    → slice_index_or new index 0 ≡ slice_index_or old index 0
 
 -- the slot of a held chunk is out with its writer
 pub record Fetches (chunk : ℕ) (me new : Mine) : Type 0 where

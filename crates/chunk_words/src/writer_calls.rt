@@ -8,9 +8,9 @@ ghost use Rattle.chunk_plain.specs.Payload.{byte_of, byte_in, sealed_to, HasFrag
 ghost use Rattle.chunk_plain.specs.Drafts.{MayFollow, draft_at, head_at, published, ends_by, IsHolding};
 ghost use Rattle.chunk_plain.specs.Steps.{redrafts, with_head, completes, notes_call};
 ghost use Rattle.chunk_plain.specs.Words.{TriesClaim, WasHad, HasClaimed, IsBegun, BeginsChunk};
-ghost use Rattle.chunk_plain.specs.Words.{KeepsSealed, IsPublished, PublishesBytes, completed_content, call_of};
+ghost use Rattle.chunk_plain.specs.Words.{KeepsSealed, IsPublished, StaysOutside, PublishesBytes, completed_content, call_of};
 ghost use Rattle.chunk_words.specs.Knows.{view_of};
-ghost use Rattle.chunk_words.specs.Moves.{Stores, StaysOutside};
+ghost use Rattle.chunk_words.specs.Moves.{Stores};
 ghost use Rattle.chunk_words.specs.Seats.{IsIdle};
 ghost use Rattle.chunk_words.specs.Sits.{Sits};
 

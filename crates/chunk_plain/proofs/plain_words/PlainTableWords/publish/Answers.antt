@@ -37,7 +37,7 @@ returns-clause-view c =
     record {
       words = stored;
       bytes = publishing.published_range copy old.words stored c.args.from c.args.to c.stored_end-end.result
-          c.requires.order whole (λ less. c.stored_end-end.ensures.some less)
+          c.requires.order whole (λ less. c.stored_end-end.ensures.some less) c.stored_end-end.ensures.most
           (subst (λ (l : List ℕ). StoredUpTo l (c.args.from / 8) c.stored_end-end.result old.words stored) c.deref.ensures.value c.store_words.ensures.words);
       view = publishing.drafted_view self.told.world c.store_words.new.self.told.world place chunk position (with_words old stored) c.store_words.ensures.world
           (known.seat_inside self.layout self.words.items self.slots.items self.told.world self.kept place c.requires.seat.inside);

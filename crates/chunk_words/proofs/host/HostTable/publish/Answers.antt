@@ -1,15 +1,17 @@
-use Rattle.std.proofs.Common.{◌≡◌, ◌/◌, ◌≤◌, ◌∙◌, List, ℕ, length, refl, sym, ap, subst, arith}
+use Rattle.std.proofs.Common.{◌≡◌, ◌+◌, ◌*◌, ◌/◌, ◌<◌, ◌≤◌, ◌∙◌, List, ℕ, length, refl, sym, ap, subst, arith}
+use native.Mathlib.Decide.{dec_le}
+use mathlib.Core.Logic.{dite}
 use Rattle.chunk_plain.specs.Payload.{StoredUpTo}
 use Rattle.chunk_plain.specs.Views.{Held, Draft}
 use Rattle.chunk_plain.specs.Steps.{redrafts, with_words}
 use Rattle.chunk_plain.specs.Drafts.{draft_at}
+use Rattle.chunk_plain.specs.Words.{StaysOutside}
 use Rattle.chunk_plain.proofs.Holding.{redrafts_draft}
-use Rattle.chunk_plain.proofs.Publishing.{published_range}
+use Rattle.chunk_plain.proofs.Publishing.{published_range, stored_range}
 use Rattle.chunk_plain.proofs.Resting.{entry_rest}
 use Rattle.chunk_words.specs.Knows.{view_of}
-use Rattle.chunk_words.specs.Moves.{Mine, StaysOutside}
+use Rattle.chunk_words.specs.Moves.{Mine}
 use Rattle.chunk_words.proofs.Rests.{sits_now, held_of_table}
-use Rattle.chunk_words.proofs.Storing.{stored_range}
 use Rattle.chunk_words.proofs.host.HostTable.publish.Goals as goal
 
 pub store_words-requires-clause-chunk : goal.store_words-requires-clause-chunk
@@ -22,10 +24,14 @@ returns-clause-view c =
     let seat = c.args.seat.now in let copy = c.args.held.now.body.payload.items in let position = c.args.held.now.position in let stores = c.store_words.ensures.me in
     let old = draft_at (view_of seat.seat.me.0) position in
     let whole : c.args.to ≤ length copy = let inside = c.requires.inside in let size = c.requires.size in let joined = c.args.held.now.body.payload.ok.0 in omega arith in
+    let end = c.word_end-end.result in let order = c.requires.order in
+    let most : 8 * end < c.args.to + 32 = dite (dec_le c.args.to c.args.from)
+    (λ empty. let end_is = c.word_end-end.ensures.none empty in omega arith)
+    (λ filled. let last = (c.word_end-end.ensures.some (omega arith)).1 in omega arith) in
     record {
       words = stores.words;
       bytes = published_range copy old.words stores.words c.args.from c.args.to c.word_end-end.result
-          c.requires.order whole (λ less. (c.word_end-end.ensures.some less).0)
+          c.requires.order whole (λ less. (c.word_end-end.ensures.some less).0) most
           (subst (λ (l : List ℕ). StoredUpTo l (c.args.from / 8) c.word_end-end.result old.words stores.words) c.deref.ensures.value stores.stored);
       view = ap (λ (m : Mine). view_of m.0) stores.new_is;
     }
@@ -38,7 +44,7 @@ returns-clause-others c =
     = ap (λ (m : Mine). draft_at (view_of m.0) position) stores.new_is ∙ redrafts_draft view chunk position draft c.requires.held in
     subst (λ (d : Draft). StaysOutside c.args.from c.args.to (draft_at view position).words d.words) (sym now)
     (stored_range c.args.from c.args.to c.word_end-end.result (draft_at view position).words stores.words
-    (λ less. (c.word_end-end.ensures.some less).1) c.word_end-end.ensures.none stores.before stores.behind)
+    (λ less. (c.word_end-end.ensures.some less).1) c.word_end-end.ensures.none stores.stored.before stores.stored.behind)
 
 pub returns-clause-seat : goal.returns-clause-seat
 returns-clause-seat c =
