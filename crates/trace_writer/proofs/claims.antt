@@ -4,6 +4,7 @@ pub mod DropLaws
 pub mod FewSteps
 pub mod KeepingClaims
 pub mod Losses
+pub mod MayAskStill
 pub mod QuietRows
 pub mod QuietSteps
 pub mod Rounds

@@ -22,6 +22,11 @@ pub record IsInPacket (site : Site) (view : WriterView) (pending : Pending) (fra
   pub older : List Packet
   pub inside : InFragment site packet older view pending fragment []
 
+-- The packet has to run on from the fragment: all of its chunk is filled, or no nested length fits any more; and there is a position for the next chunk.
+pub record HasToRunOn (fragment : OpenFragment) : Type 0 where
+  pub filled : vec_len fragment.held.body.payload < fragment.at + 4
+  pub ids : HasIds fragment 1
+
 -- the newest packet is given up, with all that its writer was asked to write of it
 abbrev pub with_loss : Packet → List Packet → Account
 with_loss packet older = record { packets = given_up_packet packet ∷ older; flushed = false }

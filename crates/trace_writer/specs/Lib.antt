@@ -1,6 +1,7 @@
 pub mod Agreement
 pub mod Answered
 pub mod Asked
+pub mod AtWork
 pub mod Claims
 pub mod Core
 pub mod Drafted

@@ -1,20 +1,20 @@
 //! Where a packet begins.
-ghost use Rattle.std.specs.Prelude.{◌≡◌, ℕ, ◌+◌, ◌<◌, ◌≤◌, true, false, [], ◌∷◌, ◌++◌, List, None, length, not, Ok, Err, MatchResult, vec_len};
+ghost use Rattle.std.specs.Prelude.{◌≡◌, ◌+◌, ◌≤◌, true, false, length, not, vec_len};
 ghost use Rattle.chunk_plain.specs.declared.tokens.TheConstants.{POSITION_LIMIT};
 ghost use Rattle.trace_writer.specs.declared.ids.TheConstants.{PACKET_IDS};
 ghost use Rattle.trace_model.specs.Packets.{Account, account_of};
 ghost use Rattle.commit_body.specs.Pending.{Pending};
-ghost use Rattle.trace_base.specs.declared.policy.WriterPolicy.TheVariants.{Drops, Stalls};
-ghost use Rattle.trace_writer.specs.declared.fault.CallFault.TheVariants as call_fault;
+ghost use Rattle.trace_base.specs.declared.policy.WriterPolicy.TheVariants.{Drops};
 ghost use Rattle.trace_writer.specs.Empty.{is_empty, is_stalled as is_stalled_state};
-ghost use Rattle.trace_writer.specs.Asked.{IsAsked, begun_as, stops_with};
+ghost use Rattle.trace_writer.specs.AtWork.{IsAtWork, IsReady, MayAsk, MayClaim, Notes, moment};
 ghost use Rattle.trace_writer.specs.Helping.{IsWork};
 ghost use Rattle.trace_writer.specs.OwnSteps.{IsQuiet, NoneHeld};
 ghost use Rattle.trace_model.specs.Calls as call;
-ghost use Rattle.trace_writer.specs.Site.{IsRoute, site_of};
+ghost use Rattle.trace_writer.specs.Site.{site_of};
 ghost use Rattle.trace_writer.specs.Agreement.{Agrees, AgreesBetween, is_begun};
 ghost use Rattle.trace_writer.specs.States.{IsIdle, IsBehind, has_room};
 ghost use Rattle.trace_writer.specs.Placing.{BeginsHere, IsPlace, IsRoomy, BeginsAt, is_behind, is_roomy};
+ghost use Rattle.trace_writer.specs.Written.{TriesToBegin};
 
 use crate::chunk::HeldChunk;
 use crate::claim::claim_next;
@@ -49,10 +49,7 @@ fn new_place<W: Words, L: Ledger, H: HelperOn<W>>(
     next_position: u32,
     steps: &mut Steps<L>,
 ) -> Place
-    requires seat { W.means.sits table.old seat.old }
-    requires needs { H.needs help.old table.old }
-    requires route { IsRoute (W.means.setup table.old) (W.means.place seat.old) route.now }
-    requires next { next_position ≡ length (W.means.view table.old seat.old).begun }
+    requires may_claim { MayClaim W.means H.needs route.now help.old table.old seat.old next_position }
     requires ids { next_position + PACKET_IDS ≤ POSITION_LIMIT }
     requires none_held { NoneHeld (W.means.view table.old seat.old).begun }
     ensures calls { (W.means.view table.new seat.new).calls ≡ (W.means.view table.old seat.old).calls }
@@ -80,9 +77,7 @@ fn held_or_new_place<W: Words, L: Ledger, H: HelperOn<W>>(
     chunk: HeldChunk,
     steps: &mut Steps<L>,
 ) -> Place
-    requires seat { W.means.sits table.old seat.old }
-    requires needs { H.needs help.old table.old }
-    requires route { IsRoute (W.means.setup table.old) (W.means.place seat.old) route.now }
+    requires may_ask { MayAsk W.means H.needs route.now help.old table.old seat.old }
     requires behind { (account : Account)
         × IsBehind (site_of (W.means.setup table.old) (W.means.place seat.old) route.now) account (W.means.view table.old seat.old)
         pending.old chunk }
@@ -115,11 +110,8 @@ fn begin_kept<W: Words>(writer: &mut Writer, table: &mut W, seat: &mut W::Writer
         (account_of (W.means.view table.old seat.old).calls) (W.means.view table.old seat.old) writer.old.pending chunk }
     requires empty { is_empty writer.old.state ≡ true }
     requires agrees { AgreesBetween (W.means.setup table.old) (W.means.place seat.old) (W.means.view table.old seat.old) writer.old }
-    ensures agrees { Agrees (W.means.setup table.old) (W.means.place seat.old) (W.means.view table.new seat.new) writer.new }
-    ensures route { writer.new.route ≡ writer.old.route }
-    ensures calls { (W.means.view table.new seat.new).calls ≡ (W.means.view table.old seat.old).calls ++ call.Begun true ∷ [] }
+    ensures notes { Notes W.means (call.Begun true) writer.old.route table.old seat.old table.new seat.new writer.new }
     ensures going { is_stalled_state writer.new.state ≡ false }
-    ensures quiet { IsQuiet W.means table.old seat.old table.new seat.new }
 {
     writer.begun = writer.begun.saturating_add(1);
     writer.packet = Some(OpenPacket::new());
@@ -144,11 +136,8 @@ fn begin_dropped<W: Words>(
         (account_of (W.means.view table.old seat.old).calls) (W.means.view table.old seat.old) writer.old.pending }
     requires empty { is_empty writer.old.state ≡ true }
     requires agrees { AgreesBetween (W.means.setup table.old) (W.means.place seat.old) (W.means.view table.old seat.old) writer.old }
-    ensures agrees { Agrees (W.means.setup table.old) (W.means.place seat.old) (W.means.view table.new seat.new) writer.new }
-    ensures route { writer.new.route ≡ writer.old.route }
-    ensures calls { (W.means.view table.new seat.new).calls ≡ (W.means.view table.old seat.old).calls ++ call.Begun false ∷ [] }
+    ensures notes { Notes W.means (call.Begun false) writer.old.route table.old seat.old table.new seat.new writer.new }
     ensures going { is_stalled_state writer.new.state ≡ false }
-    ensures quiet { IsQuiet W.means table.old seat.old table.new seat.new }
 {
     writer.begun = writer.begun.saturating_add(1);
     writer.packet = Some(OpenPacket::new());
@@ -205,24 +194,11 @@ pub(crate) fn begin<W: Words, L: Ledger, H: HelperOn<W>>(
     help: &mut H,
     steps: &mut Steps<L>,
 ) -> Result<Begun, CallFault>
-    requires seat { W.means.sits table.old seat.old }
-    requires needs { H.needs help.old table.old }
-    requires agrees { Agrees (W.means.setup table.old) (W.means.place seat.old) (W.means.view table.old seat.old) writer.old }
+    requires ready { IsReady W.means H.needs (moment writer.old help.old table.old seat.old steps.old) }
     requires none_begun { is_begun writer.old.packet ≡ false }
     requires ids { length (W.means.view table.old seat.old).begun + PACKET_IDS ≤ POSITION_LIMIT }
-    ensures agrees { Agrees (W.means.setup table.old) (W.means.place seat.old) (W.means.view table.new seat.new) writer.new }
-    ensures route { writer.new.route ≡ writer.old.route }
-    ensures stays { is_stalled_state writer.old.state ≡ true
-        → (result ≡ Err call_fault.Stalled) × (writer.new ≡ writer.old) × (table.new ≡ table.old) × (seat.new ≡ seat.old)
-        × (help.new ≡ help.old) × (steps.new ≡ steps.old) }
-    ensures answers { is_stalled_state writer.old.state ≡ false
-        → MatchResult result (λ _. is_stalled_state writer.new.state ≡ false) (λ fault. (fault ≡ call_fault.Stalled)
-        × (is_stalled_state writer.new.state ≡ true)) }
-    ensures done { is_stalled_state writer.old.state ≡ false
-        → IsAsked W.means H.needs H.helps true
-        writer.old.route help.old table.old seat.old steps.old (stops_with result)
-        (begun_as (stops_with result) writer.old.route.spec.policy)
-        (is_stalled_state writer.new.state) help.new table.new seat.new steps.new }
+    ensures begins { TriesToBegin W.means H.needs H.helps (moment writer.old help.old table.old seat.old steps.old)
+        result (moment writer.new help.new table.new seat.new steps.new) }
     ensures asked { BeginsHere writer.old.state → (W.means.view table.new seat.new).asked ≡ (W.means.view table.old seat.old).asked }
     ensures few_steps { writer.old.route.spec.policy ≡ Drops → steps.new ≤ steps.old + writer.old.route.arbiter.chunks + 1 }
 {
@@ -251,16 +227,12 @@ fn has_room_here(state: &State) -> bool
 /// into the next: by way of a place it would be copied twice.
 #[inline(always)]
 fn begin_here<W: Words>(writer: &mut Writer, table: &mut W, seat: &mut W::Writer)
-    requires seat { W.means.sits table.old seat.old }
-    requires agrees { Agrees (W.means.setup table.old) (W.means.place seat.old) (W.means.view table.old seat.old) writer.old }
+    requires at_work { IsAtWork W.means table.old seat.old writer.old }
     requires none_begun { is_begun writer.old.packet ≡ false }
     requires ids { length (W.means.view table.old seat.old).begun + PACKET_IDS ≤ POSITION_LIMIT }
     requires roomy { is_roomy writer.old.state ≡ true }
-    ensures agrees { Agrees (W.means.setup table.old) (W.means.place seat.old) (W.means.view table.new seat.new) writer.new }
-    ensures route { writer.new.route ≡ writer.old.route }
-    ensures calls { (W.means.view table.new seat.new).calls ≡ (W.means.view table.old seat.old).calls ++ call.Begun true ∷ [] }
+    ensures notes { Notes W.means (call.Begun true) writer.old.route table.old seat.old table.new seat.new writer.new }
     ensures going { is_stalled_state writer.new.state ≡ false }
-    ensures quiet { IsQuiet W.means table.old seat.old table.new seat.new }
 {
     match take_state(&mut writer.state) {
         State::Between(chunk) => begin_kept(writer, table, seat, chunk),
@@ -280,24 +252,11 @@ fn begin_elsewhere<W: Words, L: Ledger, H: HelperOn<W>>(
     help: &mut H,
     steps: &mut Steps<L>,
 ) -> Result<Begun, CallFault>
-    requires seat { W.means.sits table.old seat.old }
-    requires needs { H.needs help.old table.old }
-    requires agrees { Agrees (W.means.setup table.old) (W.means.place seat.old) (W.means.view table.old seat.old) writer.old }
+    requires ready { IsReady W.means H.needs (moment writer.old help.old table.old seat.old steps.old) }
     requires none_begun { is_begun writer.old.packet ≡ false }
     requires ids { length (W.means.view table.old seat.old).begun + PACKET_IDS ≤ POSITION_LIMIT }
-    ensures agrees { Agrees (W.means.setup table.old) (W.means.place seat.old) (W.means.view table.new seat.new) writer.new }
-    ensures route { writer.new.route ≡ writer.old.route }
-    ensures stays { is_stalled_state writer.old.state ≡ true
-        → (result ≡ Err call_fault.Stalled) × (writer.new ≡ writer.old) × (table.new ≡ table.old) × (seat.new ≡ seat.old)
-        × (help.new ≡ help.old) × (steps.new ≡ steps.old) }
-    ensures answers { is_stalled_state writer.old.state ≡ false
-        → MatchResult result (λ _. is_stalled_state writer.new.state ≡ false) (λ fault. (fault ≡ call_fault.Stalled)
-        × (is_stalled_state writer.new.state ≡ true)) }
-    ensures done { is_stalled_state writer.old.state ≡ false
-        → IsAsked W.means H.needs H.helps true
-        writer.old.route help.old table.old seat.old steps.old (stops_with result)
-        (begun_as (stops_with result) writer.old.route.spec.policy)
-        (is_stalled_state writer.new.state) help.new table.new seat.new steps.new }
+    ensures begins { TriesToBegin W.means H.needs H.helps (moment writer.old help.old table.old seat.old steps.old)
+        result (moment writer.new help.new table.new seat.new steps.new) }
     ensures asked { BeginsHere writer.old.state → (W.means.view table.new seat.new).asked ≡ (W.means.view table.old seat.old).asked }
     ensures few_steps { writer.old.route.spec.policy ≡ Drops → steps.new ≤ steps.old + writer.old.route.arbiter.chunks + 1 }
 {

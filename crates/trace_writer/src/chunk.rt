@@ -1,12 +1,12 @@
 //! A held chunk behind its last fragment.
-ghost use Rattle.std.specs.Prelude.{◌≡◌, ◌≢◌, ℕ, ◌+◌, ◌-◌, ◌%◌, ◌<◌, ◌≤◌, Bool, false, ◌&&◌, nat_le, nat_lt, [], if◌then◌else◌, vec_len};
+ghost use Rattle.std.specs.Prelude.{◌≡◌, ◌+◌, ◌-◌, ◌<◌, ◌≤◌, ◌&&◌, nat_le, nat_lt, [], if◌then◌else◌, vec_len};
 ghost use Rattle.chunk_plain.specs.declared.tokens.TheConstants.{POSITION_LIMIT};
 ghost use Rattle.trace_base.specs.declared.limits.TheConstants.{MAX_FRAGMENTS, MAX_PAGE_SIZE};
 ghost use Rattle.trace_model.specs.Sequences.{is_among};
 ghost use Rattle.commit_body.specs.Patches.{hole_chunks, with_lasts};
-ghost use Rattle.chunk_plain.specs.Setup.{spot, from_of};
-ghost use Rattle.chunk_plain.specs.Drafts.{IsHolding, MayFollow, head_at};
-ghost use Rattle.chunk_plain.specs.Steps.{redrafts, completes};
+ghost use Rattle.chunk_plain.specs.Setup.{from_of};
+ghost use Rattle.chunk_plain.specs.Drafts.{MayFollow, head_at};
+ghost use Rattle.chunk_plain.specs.Steps.{completes};
 ghost use Rattle.trace_writer.specs.Headers.{flags_value, held_head, completed_chunk};
 ghost use Rattle.trace_writer.specs.OwnSteps.{IsQuiet};
 
@@ -68,6 +68,7 @@ pub(crate) struct HeldChunk {
 
 impl HeldChunk {
     ghost use Rattle.trace_writer.specs.Drafted.{IsFit, CountsNext};
+    ghost use Rattle.trace_writer.specs.Placing.{IsStarted};
 
     /// A chunk that was just begun.
     pub fn new(held: Held, continues: bool) -> HeldChunk
@@ -106,11 +107,7 @@ impl HeldChunk {
         requires head { MayFollow (head_at (W.means.view table.old seat.old) self.held.position) (held_head (self.count + 1) self.continues) }
         requires room { self.at + 4 ≤ vec_len self.held.body.payload }
         requires few { self.count < MAX_FRAGMENTS }
-        ensures held { result.held ≡ self.held }
-        ensures start { result.start ≡ self.at }
-        ensures at { result.at ≡ self.at + 4 }
-        ensures count { result.count ≡ self.count + 1 }
-        ensures continues { result.continues ≡ self.continues }
+        ensures started { IsStarted self result }
         ensures view { CountsNext self (W.means.view table.old seat.old) (W.means.view table.new seat.new) }
         ensures quiet { IsQuiet W.means table.old seat.old table.new seat.new }
     {

@@ -1,14 +1,13 @@
 //! How a writer gets its next chunk.
-ghost use Rattle.std.specs.Prelude.{◌≡◌, ◌+◌, ◌^◌, ◌-◌, ◌<◌, ◌≤◌, true, false, length, not, is_some, IfSome, IfNone};
-ghost use Rattle.chunk_plain.specs.declared.tokens.TheConstants.{POSITION_LIMIT, MAX_HELD};
+ghost use Rattle.std.specs.Prelude.{◌≡◌, ◌+◌, ◌<◌, ◌≤◌, true, false, not, is_some, IfSome, IfNone};
+ghost use Rattle.chunk_plain.specs.declared.tokens.TheConstants.{MAX_HELD};
 ghost use Rattle.trace_base.specs.declared.policy.WriterPolicy.TheVariants.{Drops, Stalls, StallsThenDrops};
 ghost use Rattle.chunk_plain.specs.Owned.{held_count};
-ghost use Rattle.chunk_plain.specs.Drafts.{IsHolding};
 ghost use Rattle.chunk_plain.specs.Words.{IsBegun};
+ghost use Rattle.trace_writer.specs.AtWork.{MayClaim};
 ghost use Rattle.trace_writer.specs.Claims.{Wins, FindsNone};
 ghost use Rattle.trace_writer.specs.Helping.{IsWork};
 ghost use Rattle.trace_writer.specs.OwnSteps.{NoneHeld};
-ghost use Rattle.trace_writer.specs.Site.{IsRoute};
 
 use crate::helper::HelperOn;
 use crate::route::Route;
@@ -29,12 +28,8 @@ pub(crate) fn claim_asking<W: Words, L: Ledger, H: HelperOn<W>>(
     next_position: u32,
     steps: &mut Steps<L>,
 ) -> Option<Held>
-    requires seat { W.means.sits table.old seat.old }
-    requires needs { H.needs help.old table.old }
-    requires route { IsRoute (W.means.setup table.old) (W.means.place seat.old) route.now }
+    requires may_claim { MayClaim W.means H.needs route.now help.old table.old seat.old next_position }
     requires stalls { route.now.spec.policy ≡ Stalls }
-    requires position { next_position ≡ length (W.means.view table.old seat.old).begun }
-    requires position_fits { next_position < POSITION_LIMIT }
     requires none_held { NoneHeld (W.means.view table.old seat.old).begun }
     ensures won { IfSome result (λ held. Wins route.now held.chunk (W.means.view table.old seat.old) (W.means.view table.new seat.new)) }
     ensures begun { IfSome result (λ held. IsBegun (W.means.setup table.old) held.chunk next_position held) }
@@ -66,12 +61,8 @@ pub(crate) fn claim_trying<W: Words, L: Ledger, H: HelperOn<W>>(
     next_position: u32,
     steps: &mut Steps<L>,
 ) -> Option<Held>
-    requires seat { W.means.sits table.old seat.old }
-    requires needs { H.needs help.old table.old }
-    requires route { IsRoute (W.means.setup table.old) (W.means.place seat.old) route.now }
+    requires may_claim { MayClaim W.means H.needs route.now help.old table.old seat.old next_position }
     requires trying { route.now.spec.policy ≡ StallsThenDrops tries }
-    requires position { next_position ≡ length (W.means.view table.old seat.old).begun }
-    requires position_fits { next_position < POSITION_LIMIT }
     requires few { held_count (W.means.view table.old seat.old).begun < MAX_HELD }
     ensures won { IfSome result (λ held. Wins route.now held.chunk (W.means.view table.old seat.old) (W.means.view table.new seat.new)) }
     ensures begun { IfSome result (λ held. IsBegun (W.means.setup table.old) held.chunk next_position held) }
@@ -102,11 +93,7 @@ pub(crate) fn claim_next<W: Words, L: Ledger, H: HelperOn<W>>(
     next_position: u32,
     steps: &mut Steps<L>,
 ) -> Option<Held>
-    requires seat { W.means.sits table.old seat.old }
-    requires needs { H.needs help.old table.old }
-    requires route { IsRoute (W.means.setup table.old) (W.means.place seat.old) route.now }
-    requires position { next_position ≡ length (W.means.view table.old seat.old).begun }
-    requires position_fits { next_position < POSITION_LIMIT }
+    requires may_claim { MayClaim W.means H.needs route.now help.old table.old seat.old next_position }
     requires none_held { NoneHeld (W.means.view table.old seat.old).begun }
     ensures won { IfSome result (λ held. Wins route.now held.chunk (W.means.view table.old seat.old) (W.means.view table.new seat.new)) }
     ensures begun { IfSome result (λ held. IsBegun (W.means.setup table.old) held.chunk next_position held) }

@@ -1,12 +1,13 @@
 //! The fields of a packet that is begun, and its nested messages.
-ghost use Rattle.std.specs.Prelude.{◌≡◌, ◌+◌, ◌*◌, ◌<◌, ◌≤◌, true, false, [], ◌∷◌, ◌++◌, length, MatchResult};
+ghost use Rattle.std.specs.Prelude.{◌≡◌, ◌+◌, ◌*◌, ◌<◌, ◌≤◌, true, false, ◌++◌, length, MatchResult};
 ghost use Rattle.std.specs.List.{repeat};
 ghost use Rattle.trace_base.specs.declared.limits.TheConstants.{MAX_FIELD, MAX_PACKET_LEN, MAX_OPEN_HOLES};
 ghost use Rattle.trace_model.specs.Calls as call;
 ghost use Rattle.trace_model.specs.Encoding.{bytes_head, nested_tag, number_field};
 ghost use Rattle.trace_model.specs.Packets.{Account, noted, on_newest, with_more};
 ghost use Rattle.chunk_plain.specs.Words.{call_of};
-ghost use Rattle.trace_writer.specs.Agreement.{Agrees, NeedsNoChunk, is_begun, len_of, open_message_count};
+ghost use Rattle.trace_writer.specs.Agreement.{NeedsNoChunk, is_begun, len_of, open_message_count};
+ghost use Rattle.trace_writer.specs.AtWork.{IsAtWork, IsReady, NotesUnlessStalled, moment};
 ghost use Rattle.trace_writer.specs.declared.fault.CallFault.TheVariants as call_fault;
 ghost use Rattle.trace_writer.specs.Empty.{is_empty, is_stalled as is_stalled_state};
 ghost use Rattle.trace_writer.specs.Outcomes.{GoesBehind};
@@ -37,15 +38,13 @@ pub(crate) fn write_number<W: Words, L: Ledger, H: HelperOn<W>>(
     size: u32,
     steps: &mut Steps<L>,
 ) -> Result<(), CallFault>
-    requires seat { W.means.sits table.old seat.old }
-    requires needs { H.needs help.old table.old }
-    requires agrees { Agrees (W.means.setup table.old) (W.means.place seat.old) (W.means.view table.old seat.old) writer.old }
+    requires ready { IsReady W.means H.needs (moment writer.old help.old table.old seat.old steps.old) }
     requires begun { is_begun writer.old.packet ≡ true }
     requires field { (1 ≤ field) × (field ≤ MAX_FIELD) }
     requires size { size ≡ length (number_field field value) }
     requires fits { len_of writer.old.packet + size ≤ MAX_PACKET_LEN }
     ensures written { IsWritten W.means H.needs H.helps (call.Number field value)
-        writer.old help.old table.old seat.old steps.old result writer.new help.new table.new seat.new steps.new }
+        (moment writer.old help.old table.old seat.old steps.old) result (moment writer.new help.new table.new seat.new steps.new) }
     ensures asked { NeedsNoChunk writer.old.state size → (W.means.view table.new seat.new).asked ≡ (W.means.view table.old seat.old).asked }
 {
     if put_number_here(writer, field, value, size) {
@@ -69,14 +68,12 @@ fn write_number_on<W: Words, L: Ledger, H: HelperOn<W>>(
     value: u64,
     steps: &mut Steps<L>,
 ) -> Result<(), CallFault>
-    requires seat { W.means.sits table.old seat.old }
-    requires needs { H.needs help.old table.old }
-    requires agrees { Agrees (W.means.setup table.old) (W.means.place seat.old) (W.means.view table.old seat.old) writer.old }
+    requires ready { IsReady W.means H.needs (moment writer.old help.old table.old seat.old steps.old) }
     requires begun { is_begun writer.old.packet ≡ true }
     requires field { (1 ≤ field) × (field ≤ MAX_FIELD) }
     requires fits { len_of writer.old.packet + length (number_field field value) ≤ MAX_PACKET_LEN }
     ensures written { IsWritten W.means H.needs H.helps (call.Number field value)
-        writer.old help.old table.old seat.old steps.old result writer.new help.new table.new seat.new steps.new }
+        (moment writer.old help.old table.old seat.old steps.old) result (moment writer.new help.new table.new seat.new steps.new) }
     ensures asked { is_empty writer.old.state ≡ true → (W.means.view table.new seat.new).asked ≡ (W.means.view table.old seat.old).asked }
 {
     let head = head_number(field, value);
@@ -109,9 +106,7 @@ pub(crate) fn write_text<W: Words, L: Ledger, H: HelperOn<W>>(
     times: u32,
     steps: &mut Steps<L>,
 ) -> Result<(), CallFault>
-    requires seat { W.means.sits table.old seat.old }
-    requires needs { H.needs help.old table.old }
-    requires agrees { Agrees (W.means.setup table.old) (W.means.place seat.old) (W.means.view table.old seat.old) writer.old }
+    requires ready { IsReady W.means H.needs (moment writer.old help.old table.old seat.old steps.old) }
     requires begun { is_begun writer.old.packet ≡ true }
     requires field { (1 ≤ field) × (field ≤ MAX_FIELD) }
     requires size { size ≡ length (bytes_head field len) }
@@ -119,7 +114,7 @@ pub(crate) fn write_text<W: Words, L: Ledger, H: HelperOn<W>>(
     requires call { (account : Account) → noted account (call.Bytes field text.now times)
         ≡ on_newest (with_more (bytes_head field len ++ repeat times text.now)) account }
     ensures written { IsWritten W.means H.needs H.helps (call.Bytes field text.now times)
-        writer.old help.old table.old seat.old steps.old result writer.new help.new table.new seat.new steps.new }
+        (moment writer.old help.old table.old seat.old steps.old) result (moment writer.new help.new table.new seat.new steps.new) }
     ensures asked { NeedsNoChunk writer.old.state (size + times * length text.now)
         → (W.means.view table.new seat.new).asked ≡ (W.means.view table.old seat.old).asked }
 {
@@ -155,16 +150,14 @@ fn write_text_on<W: Words, L: Ledger, H: HelperOn<W>>(
     times: u32,
     steps: &mut Steps<L>,
 ) -> Result<(), CallFault>
-    requires seat { W.means.sits table.old seat.old }
-    requires needs { H.needs help.old table.old }
-    requires agrees { Agrees (W.means.setup table.old) (W.means.place seat.old) (W.means.view table.old seat.old) writer.old }
+    requires ready { IsReady W.means H.needs (moment writer.old help.old table.old seat.old steps.old) }
     requires begun { is_begun writer.old.packet ≡ true }
     requires field { (1 ≤ field) × (field ≤ MAX_FIELD) }
     requires fits { len_of writer.old.packet + (length (bytes_head field len) + times * length text.now) ≤ MAX_PACKET_LEN }
     requires call { (account : Account) → noted account (call.Bytes field text.now times)
         ≡ on_newest (with_more (bytes_head field len ++ repeat times text.now)) account }
     ensures written { IsWritten W.means H.needs H.helps (call.Bytes field text.now times)
-        writer.old help.old table.old seat.old steps.old result writer.new help.new table.new seat.new steps.new }
+        (moment writer.old help.old table.old seat.old steps.old) result (moment writer.new help.new table.new seat.new steps.new) }
     ensures asked { is_empty writer.old.state ≡ true → (W.means.view table.new seat.new).asked ≡ (W.means.view table.old seat.old).asked }
 {
     let head = head_bytes(field, len);
@@ -199,14 +192,12 @@ fn write_field_on<W: Words, L: Ledger, H: HelperOn<W>>(
     call: WriterCall<'_>,
     steps: &mut Steps<L>,
 ) -> Result<(), CallFault>
-    requires seat { W.means.sits table.old seat.old }
-    requires needs { H.needs help.old table.old }
-    requires agrees { Agrees (W.means.setup table.old) (W.means.place seat.old) (W.means.view table.old seat.old) writer.old }
+    requires ready { IsReady W.means H.needs (moment writer.old help.old table.old seat.old steps.old) }
     requires begun { is_begun writer.old.packet ≡ true }
     requires fits { len_of writer.old.packet + (length head.now + times * length text.now) ≤ MAX_PACKET_LEN }
     requires call { (account : Account) → noted account (call_of call) ≡ on_newest (with_more (head.now ++ repeat times text.now)) account }
     ensures written { IsWritten W.means H.needs H.helps (call_of call.entry)
-        writer.old help.old table.old seat.old steps.old result writer.new help.new table.new seat.new steps.new }
+        (moment writer.old help.old table.old seat.old steps.old) result (moment writer.new help.new table.new seat.new steps.new) }
     ensures asked { is_empty writer.old.state ≡ true → (W.means.view table.new seat.new).asked ≡ (W.means.view table.old seat.old).asked }
 {
     if is_stalled(&writer.state) {
@@ -248,16 +239,14 @@ pub(crate) fn write_nested<W: Words, L: Ledger, H: HelperOn<W>>(
     size: u32,
     steps: &mut Steps<L>,
 ) -> Result<(), CallFault>
-    requires seat { W.means.sits table.old seat.old }
-    requires needs { H.needs help.old table.old }
-    requires agrees { Agrees (W.means.setup table.old) (W.means.place seat.old) (W.means.view table.old seat.old) writer.old }
+    requires ready { IsReady W.means H.needs (moment writer.old help.old table.old seat.old steps.old) }
     requires begun { is_begun writer.old.packet ≡ true }
     requires field { (1 ≤ field) × (field ≤ MAX_FIELD) }
     requires size { size ≡ length (nested_tag field) }
     requires fits { len_of writer.old.packet + (size + 4) ≤ MAX_PACKET_LEN }
     requires depth { open_message_count writer.old.packet < MAX_OPEN_HOLES }
     ensures written { IsWritten W.means H.needs H.helps (call.Nested field)
-        writer.old help.old table.old seat.old steps.old result writer.new help.new table.new seat.new steps.new }
+        (moment writer.old help.old table.old seat.old steps.old) result (moment writer.new help.new table.new seat.new steps.new) }
     ensures asked { NeedsNoChunk writer.old.state (size + 4)
         → (W.means.view table.new seat.new).asked ≡ (W.means.view table.old seat.old).asked }
 {
@@ -282,15 +271,13 @@ fn write_nested_on<W: Words, L: Ledger, H: HelperOn<W>>(
     field: u32,
     steps: &mut Steps<L>,
 ) -> Result<(), CallFault>
-    requires seat { W.means.sits table.old seat.old }
-    requires needs { H.needs help.old table.old }
-    requires agrees { Agrees (W.means.setup table.old) (W.means.place seat.old) (W.means.view table.old seat.old) writer.old }
+    requires ready { IsReady W.means H.needs (moment writer.old help.old table.old seat.old steps.old) }
     requires begun { is_begun writer.old.packet ≡ true }
     requires field { (1 ≤ field) × (field ≤ MAX_FIELD) }
     requires fits { len_of writer.old.packet + (length (nested_tag field) + 4) ≤ MAX_PACKET_LEN }
     requires depth { open_message_count writer.old.packet < MAX_OPEN_HOLES }
     ensures written { IsWritten W.means H.needs H.helps (call.Nested field)
-        writer.old help.old table.old seat.old steps.old result writer.new help.new table.new seat.new steps.new }
+        (moment writer.old help.old table.old seat.old steps.old) result (moment writer.new help.new table.new seat.new steps.new) }
     ensures asked { is_empty writer.old.state ≡ true → (W.means.view table.new seat.new).asked ≡ (W.means.view table.old seat.old).asked }
 {
     if is_stalled(&writer.state) {
@@ -365,20 +352,12 @@ fn go_on<W: Words>(
 /// Ends the innermost nested message, and puts its length in or keeps it as a patch. Where the writer
 /// has stalled nothing changes.
 pub(crate) fn end_message<W: Words>(writer: &mut Writer, table: &mut W, seat: &mut W::Writer)
-    requires seat { W.means.sits table.old seat.old }
-    requires agrees { Agrees (W.means.setup table.old) (W.means.place seat.old) (W.means.view table.old seat.old) writer.old }
+    requires at_work { IsAtWork W.means table.old seat.old writer.old }
     requires begun { is_begun writer.old.packet ≡ true }
     requires depth { 0 < open_message_count writer.old.packet }
-    ensures agrees { Agrees (W.means.setup table.old) (W.means.place seat.old) (W.means.view table.new seat.new) writer.new }
-    ensures route { writer.new.route ≡ writer.old.route }
-    ensures stalled { is_stalled_state writer.old.state ≡ true → (writer.new ≡ writer.old) × (table.new ≡ table.old)
-        × (seat.new ≡ seat.old) }
-    ensures goes { is_stalled_state writer.new.state ≡ is_stalled_state writer.old.state }
-    ensures notes { is_stalled_state writer.old.state ≡ false
-        → (W.means.view table.new seat.new).calls ≡ (W.means.view table.old seat.old).calls ++ call.Ended ∷ [] }
+    ensures notes { NotesUnlessStalled W.means call.Ended table.old seat.old writer.old table.new seat.new writer.new }
     ensures others { record (W.means.view table.new seat.new) { calls = (W.means.view table.old seat.old).calls }
         ≡ W.means.view table.old seat.old }
-    ensures quiet { IsQuiet W.means table.old seat.old table.new seat.new }
 {
     if is_stalled(&writer.state) {
         return;

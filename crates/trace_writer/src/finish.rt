@@ -1,31 +1,23 @@
 //! The end of a packet, and of a chunk between two packets.
-ghost use Rattle.std.specs.Prelude.{◌≡◌, ℕ, ◌+◌, ◌<◌, ◌≤◌, true, false, [], ◌∷◌, ◌++◌, List, length};
+ghost use Rattle.std.specs.Prelude.{◌≡◌, true, false};
 ghost use Rattle.trace_model.specs.Calls as call;
-ghost use Rattle.trace_writer.specs.Agreement.{Agrees, is_begun, open_message_count};
+ghost use Rattle.trace_writer.specs.Agreement.{is_begun, open_message_count};
+ghost use Rattle.trace_writer.specs.AtWork.{IsAtWork, NotesUnlessStalled};
 ghost use Rattle.trace_writer.specs.Empty.{is_empty, is_stalled as is_stalled_state};
-ghost use Rattle.trace_writer.specs.OwnSteps.{IsQuiet};
 
 use crate::state::{State, Writer, is_stalled, put_state, take_state};
 use chunk_plain::{Words, WriterCall};
 
 /// Ends a packet whose messages have all ended. Where the writer has stalled nothing changes.
 pub(crate) fn finish<W: Words>(writer: &mut Writer, table: &mut W, seat: &mut W::Writer)
-    requires seat { W.means.sits table.old seat.old }
-    requires agrees { Agrees (W.means.setup table.old) (W.means.place seat.old) (W.means.view table.old seat.old) writer.old }
+    requires at_work { IsAtWork W.means table.old seat.old writer.old }
     requires begun { is_begun writer.old.packet ≡ true }
     requires depth { open_message_count writer.old.packet ≡ 0 }
-    ensures agrees { Agrees (W.means.setup table.old) (W.means.place seat.old) (W.means.view table.new seat.new) writer.new }
-    ensures route { writer.new.route ≡ writer.old.route }
-    ensures stalled { is_stalled_state writer.old.state ≡ true → (writer.new ≡ writer.old) × (table.new ≡ table.old)
-        × (seat.new ≡ seat.old) }
-    ensures goes { is_stalled_state writer.new.state ≡ is_stalled_state writer.old.state }
+    ensures notes { NotesUnlessStalled W.means call.Finished table.old seat.old writer.old table.new seat.new writer.new }
     ensures ended { is_stalled_state writer.old.state ≡ false → is_begun writer.new.packet ≡ false }
     ensures held { is_stalled_state writer.old.state ≡ false → is_empty writer.new.state ≡ writer.new.follows_loss }
-    ensures notes { is_stalled_state writer.old.state ≡ false
-        → (W.means.view table.new seat.new).calls ≡ (W.means.view table.old seat.old).calls ++ call.Finished ∷ [] }
     ensures others { record (W.means.view table.new seat.new) { calls = (W.means.view table.old seat.old).calls }
         ≡ W.means.view table.old seat.old }
-    ensures quiet { IsQuiet W.means table.old seat.old table.new seat.new }
 {
     if is_stalled(&writer.state) {
         return;
@@ -49,19 +41,11 @@ pub(crate) fn finish<W: Words>(writer: &mut Writer, table: &mut W, seat: &mut W:
 
 /// Completes the held chunk, where there is one. Where the writer has stalled nothing changes.
 pub(crate) fn flush<W: Words>(writer: &mut Writer, table: &mut W, seat: &mut W::Writer)
-    requires seat { W.means.sits table.old seat.old }
-    requires agrees { Agrees (W.means.setup table.old) (W.means.place seat.old) (W.means.view table.old seat.old) writer.old }
+    requires at_work { IsAtWork W.means table.old seat.old writer.old }
     requires none_begun { is_begun writer.old.packet ≡ false }
-    ensures agrees { Agrees (W.means.setup table.old) (W.means.place seat.old) (W.means.view table.new seat.new) writer.new }
-    ensures route { writer.new.route ≡ writer.old.route }
-    ensures stalled { is_stalled_state writer.old.state ≡ true → (writer.new ≡ writer.old) × (table.new ≡ table.old)
-        × (seat.new ≡ seat.old) }
-    ensures goes { is_stalled_state writer.new.state ≡ is_stalled_state writer.old.state }
+    ensures notes { NotesUnlessStalled W.means call.Flushed table.old seat.old writer.old table.new seat.new writer.new }
     ensures none_begun { is_begun writer.new.packet ≡ false }
     ensures none_held { is_empty writer.new.state ≡ true }
-    ensures notes { is_stalled_state writer.old.state ≡ false
-        → (W.means.view table.new seat.new).calls ≡ (W.means.view table.old seat.old).calls ++ call.Flushed ∷ [] }
-    ensures quiet { IsQuiet W.means table.old seat.old table.new seat.new }
 {
     if is_stalled(&writer.state) {
         return;

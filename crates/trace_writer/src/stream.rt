@@ -1,17 +1,17 @@
 //! The bytes of a packet, streamed into chunks: where a chunk ends the packet runs on in the next
 //! one, or stops where none is free.
-ghost use Rattle.std.specs.Prelude.{◌≡◌, ℕ, ◌+◌, ◌-◌, ◌*◌, ◌<◌, ◌≤◌, ◌⊎◌, true, false, [], ◌∷◌, ◌++◌, length, vec_len};
+ghost use Rattle.std.specs.Prelude.{◌≡◌, ◌+◌, ◌*◌, ◌<◌, true, false, ◌++◌, length, vec_len};
 ghost use Rattle.std.specs.List.{repeat};
 ghost use Rattle.trace_base.specs.declared.limits.TheConstants.{MAX_OPEN_HOLES};
+ghost use Rattle.trace_writer.specs.AtWork.{MayAsk};
 ghost use Rattle.trace_writer.specs.Site.{IsRoute, site_of};
-ghost use Rattle.trace_writer.specs.Filled.{HasByte};
 ghost use Rattle.trace_writer.specs.Ids.{HasIds};
 ghost use Rattle.trace_model.specs.Packets.{Packet, with_more};
 ghost use Rattle.cut_steps.specs.Writing.{with_open};
 ghost use Rattle.trace_base.specs.declared.policy.WriterPolicy.TheVariants.{Drops, Stalls, StallsThenDrops};
 ghost use Rattle.trace_writer.specs.Helping.{IsWork, loses};
 ghost use Rattle.trace_writer.specs.OwnSteps.{IsQuiet, MakesRound};
-ghost use Rattle.trace_writer.specs.Flows.{Flows, Continues, SetsLength, StopsHere, IsInPacket, Writes, is_stopped};
+ghost use Rattle.trace_writer.specs.Flows.{Flows, Continues, SetsLength, StopsHere, IsInPacket, HasToRunOn, Writes, is_stopped};
 
 use crate::chunk::HeldChunk;
 use crate::claim::{claim_asking, claim_trying};
@@ -38,9 +38,7 @@ pub(crate) fn run_on<W: Words, L: Ledger, H: HelperOn<W>>(
     fragment: OpenFragment,
     steps: &mut Steps<L>,
 ) -> Flow
-    requires seat { W.means.sits table.old seat.old }
-    requires needs { H.needs help.old table.old }
-    requires route { IsRoute (W.means.setup table.old) (W.means.place seat.old) route.now }
+    requires may_ask { MayAsk W.means H.needs route.now help.old table.old seat.old }
     requires inside { IsInPacket (site_of (W.means.setup table.old) (W.means.place seat.old) route.now) (W.means.view table.old seat.old)
         pending.old fragment }
     requires filled { vec_len fragment.held.body.payload < fragment.at + 4 }
@@ -73,8 +71,7 @@ fn run_on_or_drop<W: Words, L: Ledger>(
     requires route { IsRoute (W.means.setup table.old) (W.means.place seat.old) route.now }
     requires inside { IsInPacket (site_of (W.means.setup table.old) (W.means.place seat.old) route.now) (W.means.view table.old seat.old)
         pending.old fragment }
-    requires filled { vec_len fragment.held.body.payload < fragment.at + 4 }
-    requires ids { HasIds fragment 1 }
+    requires ends { HasToRunOn fragment }
     ensures flow { Continues (W.means.setup table.old) (W.means.place seat.old) route.now (W.means.view table.old seat.old)
         (W.means.view table.new seat.new) pending.old pending.new fragment result }
     ensures round { MakesRound W.means route.now (is_stopped result) table.old seat.old table.new seat.new }
@@ -105,14 +102,11 @@ fn run_on_or_try<W: Words, L: Ledger, H: HelperOn<W>>(
     tries: u32,
     steps: &mut Steps<L>,
 ) -> Flow
-    requires seat { W.means.sits table.old seat.old }
-    requires needs { H.needs help.old table.old }
+    requires may_ask { MayAsk W.means H.needs route.now help.old table.old seat.old }
     requires trying { route.now.spec.policy ≡ StallsThenDrops tries }
-    requires route { IsRoute (W.means.setup table.old) (W.means.place seat.old) route.now }
     requires inside { IsInPacket (site_of (W.means.setup table.old) (W.means.place seat.old) route.now) (W.means.view table.old seat.old)
         pending.old fragment }
-    requires filled { vec_len fragment.held.body.payload < fragment.at + 4 }
-    requires ids { HasIds fragment 1 }
+    requires ends { HasToRunOn fragment }
     ensures flow { Continues (W.means.setup table.old) (W.means.place seat.old) route.now (W.means.view table.old seat.old)
         (W.means.view table.new seat.new) pending.old pending.new fragment result }
     ensures work { IsWork W.means H.needs H.helps false
@@ -139,14 +133,11 @@ fn run_on_or_stall<W: Words, L: Ledger, H: HelperOn<W>>(
     fragment: OpenFragment,
     steps: &mut Steps<L>,
 ) -> Flow
-    requires seat { W.means.sits table.old seat.old }
-    requires needs { H.needs help.old table.old }
+    requires may_ask { MayAsk W.means H.needs route.now help.old table.old seat.old }
     requires stalls { route.now.spec.policy ≡ Stalls }
-    requires route { IsRoute (W.means.setup table.old) (W.means.place seat.old) route.now }
     requires inside { IsInPacket (site_of (W.means.setup table.old) (W.means.place seat.old) route.now) (W.means.view table.old seat.old)
         pending.old fragment }
-    requires filled { vec_len fragment.held.body.payload < fragment.at + 4 }
-    requires ids { HasIds fragment 1 }
+    requires ends { HasToRunOn fragment }
     ensures flow { Continues (W.means.setup table.old) (W.means.place seat.old) route.now (W.means.view table.old seat.old)
         (W.means.view table.new seat.new) pending.old pending.new fragment result }
     ensures work { IsWork W.means H.needs H.helps false
@@ -199,9 +190,7 @@ pub(crate) fn put_piece<W: Words, L: Ledger, H: HelperOn<W>>(
     piece: &[u8],
     steps: &mut Steps<L>,
 ) -> Flow
-    requires seat { W.means.sits table.old seat.old }
-    requires needs { H.needs help.old table.old }
-    requires route { IsRoute (W.means.setup table.old) (W.means.place seat.old) route.now }
+    requires may_ask { MayAsk W.means H.needs route.now help.old table.old seat.old }
     requires inside { IsInPacket (site_of (W.means.setup table.old) (W.means.place seat.old) route.now) (W.means.view table.old seat.old)
         pending.old fragment }
     requires ids { HasIds fragment (length piece.now) }
@@ -237,9 +226,7 @@ pub(crate) fn put_times<W: Words, L: Ledger, H: HelperOn<W>>(
     times: u32,
     steps: &mut Steps<L>,
 ) -> Flow
-    requires seat { W.means.sits table.old seat.old }
-    requires needs { H.needs help.old table.old }
-    requires route { IsRoute (W.means.setup table.old) (W.means.place seat.old) route.now }
+    requires may_ask { MayAsk W.means H.needs route.now help.old table.old seat.old }
     requires inside { IsInPacket (site_of (W.means.setup table.old) (W.means.place seat.old) route.now) (W.means.view table.old seat.old)
         pending.old fragment }
     requires ids { HasIds fragment (times * length piece.now) }
@@ -273,9 +260,7 @@ pub(crate) fn put_length<W: Words, L: Ledger, H: HelperOn<W>>(
     fragment: OpenFragment,
     steps: &mut Steps<L>,
 ) -> Flow
-    requires seat { W.means.sits table.old seat.old }
-    requires needs { H.needs help.old table.old }
-    requires route { IsRoute (W.means.setup table.old) (W.means.place seat.old) route.now }
+    requires may_ask { MayAsk W.means H.needs route.now help.old table.old seat.old }
     requires inside { IsInPacket (site_of (W.means.setup table.old) (W.means.place seat.old) route.now) (W.means.view table.old seat.old)
         pending.old fragment }
     requires ids { HasIds fragment 4 }
@@ -312,9 +297,7 @@ pub(crate) fn put_field<W: Words, L: Ledger, H: HelperOn<W>>(
     times: u32,
     steps: &mut Steps<L>,
 ) -> Flow
-    requires seat { W.means.sits table.old seat.old }
-    requires needs { H.needs help.old table.old }
-    requires route { IsRoute (W.means.setup table.old) (W.means.place seat.old) route.now }
+    requires may_ask { MayAsk W.means H.needs route.now help.old table.old seat.old }
     requires inside { IsInPacket (site_of (W.means.setup table.old) (W.means.place seat.old) route.now) (W.means.view table.old seat.old)
         pending.old fragment }
     requires ids { HasIds fragment (length head.now + times * length text.now) }
@@ -341,9 +324,7 @@ pub(crate) fn put_nested<W: Words, L: Ledger, H: HelperOn<W>>(
     tag: &[u8],
     steps: &mut Steps<L>,
 ) -> Flow
-    requires seat { W.means.sits table.old seat.old }
-    requires needs { H.needs help.old table.old }
-    requires route { IsRoute (W.means.setup table.old) (W.means.place seat.old) route.now }
+    requires may_ask { MayAsk W.means H.needs route.now help.old table.old seat.old }
     requires inside { IsInPacket (site_of (W.means.setup table.old) (W.means.place seat.old) route.now) (W.means.view table.old seat.old)
         pending.old fragment }
     requires ids { HasIds fragment (length tag.now + 4) }

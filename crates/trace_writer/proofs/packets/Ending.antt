@@ -113,6 +113,11 @@ pub idle_of : (setup : Setup) (place : ℕ) (view : WriterView) (writer : Writer
 idle_of setup place view writer next_position state agrees =
     (subst (StateAgrees (site_of setup place writer.route) (account_of view.calls) view writer.pending) state agrees.state).1
 
+pub idle_position : (setup : Setup) (place : ℕ) (view : WriterView) (writer : Writer) (next_position : ℕ) → writer.state ≡ Idle next_position → Agrees setup place view writer
+    → next_position ≡ length view.begun
+idle_position setup place view writer next_position state agrees =
+    (subst (StateAgrees (site_of setup place writer.route) (account_of view.calls) view writer.pending) state agrees.state).0
+
 -- What the completion of a held chunk asks.
 
 pub behind_of : (setup : Setup) (place : ℕ) (view : WriterView) (writer : Writer) (chunk : HeldChunk) → writer.state ≡ Between chunk → Agrees setup place view writer

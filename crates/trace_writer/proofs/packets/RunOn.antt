@@ -34,6 +34,7 @@ use Rattle.trace_writer.specs.Drafted.{IsDrafted, IsFit, CountsNext}
 use Rattle.trace_writer.specs.States.{InFragment}
 use Rattle.trace_writer.specs.OwnSteps.{NoneHeld}
 use Rattle.trace_writer.specs.Claims.{Wins, FindsNone}
+use Rattle.trace_writer.specs.Placing.{IsStarted}
 use Rattle.trace_writer.specs.Flows.{RunsOn, StopsHere, StopsAs}
 use Rattle.trace_writer.proofs.holding.KeptChunks.{shown_none_held, none_counted, one_held}
 use Rattle.trace_writer.proofs.holding.Holes.{outside_most, among_reverse, lasts_reverse}
@@ -347,14 +348,6 @@ runs_on site old new before after fragment next least filled e = record {
       (writing_coming site.size packet older w.pages fragment.continues w.done w.now before.unsent (reverse before.holes) coming w.writing) e;
 }
 
--- the next fragment is that of the chunk that was started
-pub record StartsIn (started : HeldChunk) (next : OpenFragment) : Type 0 where
-  pub held : next.held ≡ started.held
-  pub start : next.start ≡ started.at
-  pub at : next.at ≡ started.at + 4
-  pub count : next.count ≡ started.count + 1
-  pub continues : next.continues ≡ started.continues
-
 -- the started chunk is held behind those that are completed, and has no fragment yet
 pub run_begun : (site : Site) (packet : Packet) (older : List Packet) (old two : WriterView) (before : Pending) (fragment : OpenFragment)
     (payload : List ℕ) (started : HeldChunk) (token : HeldToken) (w : InFragment site packet older old before fragment [])
@@ -390,7 +383,7 @@ pub goes_on_in : (site : Site) (old two new : WriterView) (before after : Pendin
     (ended started : HeldChunk) (token : HeldToken) (next : OpenFragment)
     → BeginsNext site before fragment ended.held.body.payload.items token.chunk old two → Ends fragment ended
     → after ≡ record before { unsent = [] }
-    → Starts site fragment token started → StartsIn started next
+    → Starts site fragment token started → IsStarted started next
     → CountsNext started two new
     → GoesOnIn site old new before after fragment next
 goes_on_in site old two new before after fragment ended started token next begins e after_is s n counts =

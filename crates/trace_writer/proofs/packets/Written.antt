@@ -1,5 +1,5 @@
--- What a field call or the begin of a nested message leaves, put together from what its steps did.
-use Rattle.std.proofs.Common.{◌≡◌, ◌∙◌, ℕ, Bool, false, [], ◌∷◌, Some, Result, Ok, sym, ap, subst}
+-- What a call leaves, put together from what its steps did.
+use Rattle.std.proofs.Common.{◌≡◌, ◌∙◌, ℕ, Bool, true, false, [], ◌∷◌, ◌++◌, Some, Result, Ok, refl, sym, ap, subst}
 use Rattle.std.proofs.lemmas.Bool.{true≢false}
 use Rattle.trace_model.specs.Calls.{Call}
 use Rattle.chunk_plain.specs.Meaning.{Meaning, IsWriterStep}
@@ -9,8 +9,11 @@ use Rattle.chunk_plain.specs.World.{World}
 use Rattle.trace_writer.specs.declared.fault.CallFault.{CallFault}
 use Rattle.trace_writer.specs.declared.state.Writer.{Writer}
 use Rattle.trace_writer.specs.Agreement.{Agrees}
+use Rattle.trace_writer.specs.AtWork.{IsAtWork, IsReady, NotesUnlessStalled, moment}
 use Rattle.trace_writer.specs.Empty.{is_stalled}
+use Rattle.trace_writer.specs.OwnSteps.{IsQuiet}
 use Rattle.trace_writer.specs.Written.{IsWritten}
+use Rattle.trace_writer.proofs.claims.QuietRows.{quiet_none}
 use Rattle.trace_writer.proofs.claims.QuietSteps.{quiet_noted}
 use Rattle.trace_writer.proofs.claims.Working.{asked_alone}
 use Rattle.trace_writer.proofs.stops.Stopping.{refuses_none}
@@ -23,7 +26,7 @@ module _ {H T W S A : Type 0} (means : Meaning T W S) (needs : H → T → Type 
       → new.route ≡ old.route → is_stalled old.state ≡ false → is_stalled new.state ≡ false
       → IsWriterStep means table seat behind after → means.view behind after ≡ notes_call (means.view table seat) call
       → ((world : World) → means.told table ≡ Some world → means.told behind ≡ Some (with_writer_view world by (means.view behind after)))
-      → IsWritten means needs helps call old helper table seat steps (Ok value) new helper behind after steps
+      → IsWritten means needs helps call (moment old helper table seat steps) (Ok value) (moment new helper behind after steps)
   written_alone call old helper table seat steps value new behind after by there keeps needed agrees route_stays was goes step is tells = record {
     agrees = agrees;
     route_stays = route_stays;
@@ -40,7 +43,39 @@ module _ {H T W S A : Type 0} (means : Meaning T W S) (needs : H → T → Type 
 
   -- what was tried before changed nothing
   pub written_after_all : {call : Call} {old mid : Writer} {helper : H} {table : T} {seat : W} {steps : ℕ} {answer : Result A CallFault} {new : Writer} {left : H} {behind : T} {after : W} {later : ℕ}
-      → mid ≡ old → IsWritten means needs helps call mid helper table seat steps answer new left behind after later
-      → IsWritten means needs helps call old helper table seat steps answer new left behind after later
+      → mid ≡ old → IsWritten means needs helps call (moment mid helper table seat steps) answer (moment new left behind after later)
+      → IsWritten means needs helps call (moment old helper table seat steps) answer (moment new left behind after later)
   written_after_all {call} {old} {mid} {helper} {table} {seat} {steps} {answer} {new} {left} {behind} {after} {later} same written =
-      subst (λ (writer : Writer). IsWritten means needs helps call writer helper table seat steps answer new left behind after later) same written
+      subst (λ (writer : Writer). IsWritten means needs helps call (moment writer helper table seat steps) answer (moment new left behind after later)) same written
+
+-- the same of what the call asks
+pub ready_after_all : {H T W S : Type 0} {means : Meaning T W S} {needs : H → T → Type 0} {old mid : Writer} {helper : H} {table : T} {seat : W} {steps : ℕ}
+    → mid ≡ old → IsReady means needs (moment old helper table seat steps) → IsReady means needs (moment mid helper table seat steps)
+ready_after_all {means = means} {needs = needs} {helper = helper} {table = table} {seat = seat} {steps = steps} same ready =
+    subst (λ (writer : Writer). IsReady means needs (moment writer helper table seat steps)) (sym same) ready
+
+module _ {T W S : Type 0} {means : Meaning T W S} {call : Call} {table : T} {seat : W} {writer : Writer} where
+  -- a writer that has stalled does nothing
+  pub none_noted : IsAtWork means table seat writer → is_stalled writer.state ≡ true → NotesUnlessStalled means call table seat writer table seat writer
+  none_noted at_work stalled = record {
+    agrees = at_work.agrees;
+    route_stays = refl;
+    stays = λ is. (refl, refl, refl);
+    goes = refl;
+    calls = λ goes. absurd (true≢false (sym stalled ∙ goes));
+    quiet = quiet_none means table seat at_work.seat_sits;
+  }
+
+  -- one that hasn't noted the call, and is this one behind it
+  pub noted_then : {left : T} {after : W} {later now : Writer} → is_stalled writer.state ≡ false → later ≡ now → now.route ≡ writer.route → is_stalled now.state ≡ false
+      → Agrees (means.setup table) (means.place seat) (means.view left after) later
+      → (means.view left after).calls ≡ (means.view table seat).calls ++ call ∷ [] → IsQuiet means table seat left after
+      → NotesUnlessStalled means call table seat writer left after later
+  noted_then goes is route goes_on agrees calls quiet = record {
+    agrees = agrees;
+    route_stays = ap (λ (w : Writer). w.route) is ∙ route;
+    stays = λ stalled. absurd (true≢false (sym stalled ∙ goes));
+    goes = ap (λ (w : Writer). is_stalled w.state) is ∙ goes_on ∙ sym goes;
+    calls = λ goes. calls;
+    quiet = quiet;
+  }

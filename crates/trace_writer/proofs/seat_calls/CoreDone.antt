@@ -11,6 +11,7 @@ use Rattle.trace_writer.specs.declared.fault.CallFault.TheVariants as fault_of
 use Rattle.trace_writer.specs.declared.writer.WriterCore.{WriterCore}
 use Rattle.trace_writer.specs.Agreement.{Agrees}
 use Rattle.trace_writer.specs.Asked.{IsAsked, LeavesAll, written_as, begun_as, stops_with}
+use Rattle.trace_writer.specs.AtWork.{moment}
 use Rattle.trace_writer.specs.Core.{CoreAgrees, in_packet, open_depth, is_stalled, refusal_of}
 use Rattle.trace_writer.specs.Helping.{LeavesOthers}
 use Rattle.trace_writer.specs.Written.{IsWritten}
@@ -91,7 +92,7 @@ module _ {H T W S : Type 0} (means : Meaning T W S) (needs : H → T → Type 0)
   pub left_written : {A : Type 0} (helper : H) (old : T) (core : WriterCore W) (steps : ℕ) (answer : Result A CallFault) (left : H) (new : T) (after : WriterCore W) (later : ℕ) (call : Call) (change : Packet → Packet)
       → means.sits old core.seat → needs helper old → CoreAgrees (means.setup old) (means.place core.seat) (means.view old core.seat) core → in_packet (means.view old core.seat) ≡ true
       → ((account : Account) → noted account call ≡ on_newest change account) → KeepsFate change → is_possible (packets_of (means.view old core.seat).calls) call ≡ true
-      → IsWritten means needs helps call core.writer helper old core.seat steps answer after.writer left new after.seat later
+      → IsWritten means needs helps call (moment core.writer helper old core.seat steps) answer (moment after.writer left new after.seat later)
       → CoreLeft means needs helper old core left new after × (in_packet (means.view new after.seat) ≡ true)
   left_written helper old core steps answer left new after later call change there needed ok writes noted_is keeps possible written =
       either_way (is_stalled core) (λ goes. goes_on (written.done goes)) (λ stalled. let is = written.stays stalled in same (core_stays core after is.1 is.3, is.2, is.4))
@@ -128,7 +129,7 @@ module _ {H T W S : Type 0} (means : Meaning T W S) (needs : H → T → Type 0)
 
   pub deep_written : {A : Type 0} (helper : H) (old : T) (core : WriterCore W) (steps : ℕ) (answer : Result A CallFault) (left : H) (new : T) (after : WriterCore W) (later : ℕ) (call : Call) (change : Packet → Packet)
       → ((account : Account) → noted account call ≡ on_newest change account) → KeepsOpen change
-      → IsWritten means needs helps call core.writer helper old core.seat steps answer after.writer left new after.seat later
+      → IsWritten means needs helps call (moment core.writer helper old core.seat steps) answer (moment after.writer left new after.seat later)
       → open_depth (means.view new after.seat) ≡ open_depth (means.view old core.seat)
   deep_written helper old core steps answer left new after later call change noted_is keeps written =
       either_way (is_stalled core)
@@ -139,7 +140,7 @@ module _ {H T W S : Type 0} (means : Meaning T W S) (needs : H → T → Type 0)
   -- one that is refused though its packet allows it: the writer is stalled
   pub refused_written : {A : Type 0} (helper : H) (old : T) (core : WriterCore W) (steps : ℕ) (answer : Result A CallFault) (left : H) (new : T) (after : WriterCore W) (later : ℕ) (call : Call)
       (asked : Option CallFault) (fault : CallFault) → asked ≡ None → refusal_of core asked ≡ Some fault
-      → IsWritten means needs helps call core.writer helper old core.seat steps answer after.writer left new after.seat later
+      → IsWritten means needs helps call (moment core.writer helper old core.seat steps) answer (moment after.writer left new after.seat later)
       → LeavesAll fault answer core after old new helper left steps later
   refused_written helper old core steps answer left new after later call asked fault none is written =
       let now = refused_stalled core asked fault none is in let stays = written.stays now.stalled_is in

@@ -1,5 +1,5 @@
 use Rattle.std.proofs.Common.{◌∙◌, refl, sym, ap, subst, arith, rules}
-use Rattle.trace_writer.proofs.packets.Ending.{behind_of, behind_position, idle_of}
+use Rattle.trace_writer.proofs.packets.Ending.{behind_of, behind_position, idle_of, idle_position}
 use Rattle.trace_writer.specs.Placing.{BeginsHere}
 use Rattle.trace_writer.specs.Site.{site_of}
 use Rattle.trace_writer.proofs.holding.KeptChunks.{shown_none_held}
@@ -10,14 +10,25 @@ use Rattle.trace_writer.proofs.begin.begin_elsewhere.Goals as goal
 pub held_or_new_place-place-requires-clause-ids : goal.held_or_new_place-place-requires-clause-ids
 held_or_new_place-place-requires-clause-ids g c =
     let behind = behind_of (g.W.Words.means.setup c.args.table.now) (g.W.Words.means.place c.args.seat.now) (g.W.Words.means.view c.args.table.now c.args.seat.now) c.args.writer.now c.in-Between.chunk
-    (sym c.take_state.ensures.taken ∙ c.in-Between.is) c.requires.agrees in
+    (sym c.take_state.ensures.taken ∙ c.in-Between.is) c.requires.ready.at_work.agrees in
     let position = behind_position _ _ (g.W.Words.means.view c.args.table.now c.args.seat.now) _ c.in-Between.chunk behind in
     omega (arith, position, c.requires.ids)
+
+pub new_place-place-requires-clause-may_claim : goal.new_place-place-requires-clause-may_claim
+new_place-place-requires-clause-may_claim g c =
+    let work = c.requires.ready.at_work in
+    let position = idle_position (g.W.Words.means.setup c.args.table.now) (g.W.Words.means.place c.args.seat.now) (g.W.Words.means.view c.args.table.now c.args.seat.now) c.args.writer.now c.in-Idle.next_position
+    (sym c.take_state.ensures.taken ∙ c.in-Idle.is) work.agrees in
+    record {
+      asks = record { seat_sits = work.seat_sits; needed = c.requires.ready.needed; route_is = work.agrees.route };
+      position_is = position;
+      position_fits = omega (arith, position, c.requires.ids);
+    }
 
 pub new_place-place-requires-clause-none_held : goal.new_place-place-requires-clause-none_held
 new_place-place-requires-clause-none_held g c =
     let idle = idle_of (g.W.Words.means.setup c.args.table.now) (g.W.Words.means.place c.args.seat.now) (g.W.Words.means.view c.args.table.now c.args.seat.now) c.args.writer.now c.in-Idle.next_position
-    (sym c.take_state.ensures.taken ∙ c.in-Idle.is) c.requires.agrees in
+    (sym c.take_state.ensures.taken ∙ c.in-Idle.is) c.requires.ready.at_work.agrees in
     shown_none_held (site_of (g.W.Words.means.setup c.args.table.now) (g.W.Words.means.place c.args.seat.now) c.args.writer.now.route) 0 (g.W.Words.means.view c.args.table.now c.args.seat.now).begun idle.pages idle.shown
 
 pub begin_at-requires-clause-place : goal.begin_at-requires-clause-place
@@ -28,10 +39,10 @@ begin_at-requires-clause-place g c =
     elim c.match-take_state.branch [
       | in-Idle w ↦
           let e = w.new_place-place.ensures in
-          found_there w.writer-is w.help-is w.table-is w.seat-is w.steps-is w.place-is (record { route_is = refl; calls = e.calls; at = e.place _ _ (idle_of _ _ _ _ _ (sym c.take_state.ensures.taken ∙ w.in-Idle.is) c.requires.agrees); work = e.work })
+          found_there w.writer-is w.help-is w.table-is w.seat-is w.steps-is w.place-is (record { route_is = refl; calls = e.calls; at = e.place _ _ (idle_of _ _ _ _ _ (sym c.take_state.ensures.taken ∙ w.in-Idle.is) c.requires.ready.at_work.agrees); work = e.work })
       | in-Between w ↦
           let e = w.held_or_new_place-place.ensures in
-          found_there w.writer-is w.help-is w.table-is w.seat-is w.steps-is w.place-is (record { route_is = refl; calls = e.calls; at = e.place _ (behind_of _ _ _ _ _ (sym c.take_state.ensures.taken ∙ w.in-Between.is) c.requires.agrees); work = e.work })
+          found_there w.writer-is w.help-is w.table-is w.seat-is w.steps-is w.place-is (record { route_is = refl; calls = e.calls; at = e.place _ (behind_of _ _ _ _ _ (sym c.take_state.ensures.taken ∙ w.in-Between.is) c.requires.ready.at_work.agrees); work = e.work })
     ] in
     found_place found
 
@@ -43,18 +54,20 @@ returns g c =
     elim c.match-take_state.branch [
       | in-Idle w ↦
           let e = w.new_place-place.ensures in
-          found_there w.writer-is w.help-is w.table-is w.seat-is w.steps-is w.place-is (record { route_is = refl; calls = e.calls; at = e.place _ _ (idle_of _ _ _ _ _ (sym c.take_state.ensures.taken ∙ w.in-Idle.is) c.requires.agrees); work = e.work })
+          found_there w.writer-is w.help-is w.table-is w.seat-is w.steps-is w.place-is (record { route_is = refl; calls = e.calls; at = e.place _ _ (idle_of _ _ _ _ _ (sym c.take_state.ensures.taken ∙ w.in-Idle.is) c.requires.ready.at_work.agrees); work = e.work })
       | in-Between w ↦
           let e = w.held_or_new_place-place.ensures in
-          found_there w.writer-is w.help-is w.table-is w.seat-is w.steps-is w.place-is (record { route_is = refl; calls = e.calls; at = e.place _ (behind_of _ _ _ _ _ (sym c.take_state.ensures.taken ∙ w.in-Between.is) c.requires.agrees); work = e.work })
+          found_there w.writer-is w.help-is w.table-is w.seat-is w.steps-is w.place-is (record { route_is = refl; calls = e.calls; at = e.place _ (behind_of _ _ _ _ _ (sym c.take_state.ensures.taken ∙ w.in-Between.is) c.requires.ready.at_work.agrees); work = e.work })
     ] in
     record {
-      agrees = search rules;
-      route = search rules;
-      stays = search rules;
-      answers = λ goes. c.begin_at.ensures.begins.answers;
-      done = λ goes. found_asked c.begin_at.new.table c.begin_at.new.seat c.begin_at.new.writer.state c.begin_at.result g.met.H.HelperOn.needs_stay found
-          c.begin_at.ensures.begins c.begin_at.ensures.quiet;
+      begins = record {
+        agrees = search rules;
+        route_stays = search rules;
+        stays = search rules;
+        answers = λ goes. c.begin_at.ensures.begins.answers;
+        done = λ goes. found_asked c.begin_at.new.table c.begin_at.new.seat c.begin_at.new.writer.state c.begin_at.result g.met.H.HelperOn.needs_stay found
+            c.begin_at.ensures.begins c.begin_at.ensures.quiet;
+      };
       asked = λ here. c.begin_at.ensures.quiet.asked ∙ elim c.match-take_state.branch [
         | in-Idle w ↦ absurd (subst BeginsHere (sym c.take_state.ensures.taken ∙ w.in-Idle.is) here)
         | in-Between w ↦

@@ -14,7 +14,7 @@ begin_kept-requires-clause-roomy g c =
     let chunk = c.in-Between.chunk in
     let was = sym c.take_state.ensures.taken ∙ c.in-Between.is in
     let site = site_of setup place c.args.writer.now.route in
-    let behind = behind_of setup place view c.args.writer.now chunk was c.requires.agrees in
+    let behind = behind_of setup place view c.args.writer.now chunk was c.requires.at_work.agrees in
     let position = behind_position _ _ view _ chunk behind in
     let roomy : has_room (vec_len chunk.held.body.payload) chunk ≡ true = sym (ap is_roomy was) ∙ c.requires.roomy in
     behind_roomy site _ view c.args.writer.now.pending chunk (omega (arith, position, c.requires.ids))

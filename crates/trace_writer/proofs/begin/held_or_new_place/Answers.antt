@@ -1,4 +1,4 @@
-use Rattle.std.proofs.Common.{◌∙◌, sym, ap}
+use Rattle.std.proofs.Common.{◌∙◌, sym, ap, arith}
 use Rattle.chunk_plain.specs.Views.{WriterView}
 use Rattle.trace_writer.specs.Site.{site_of}
 use Rattle.trace_writer.proofs.packets.Ending.{behind_fits, behind_head}
@@ -8,9 +8,10 @@ use Rattle.trace_writer.proofs.packets.Starting.{behind_roomy, behind_idle, room
 use Rattle.trace_writer.proofs.claims.Working.{work_none, work_before}
 use Rattle.trace_writer.proofs.begin.held_or_new_place.Goals as goal
 use Rattle.trace_writer.proofs.claims.RouteIds.{route_from}
+use Rattle.trace_writer.proofs.claims.MayAskStill.{asks_behind_step}
 
 pub complete-requires-clause-from : goal.complete-requires-clause-from
-complete-requires-clause-from g c = route_from (g.W.Words.means.setup c.args.table.now) (g.W.Words.means.place c.args.seat.now) c.args.route.now c.requires.route
+complete-requires-clause-from g c = route_from (g.W.Words.means.setup c.args.table.now) (g.W.Words.means.place c.args.seat.now) c.args.route.now c.requires.may_ask.route_is
 
 pub complete-requires-clause-fit : goal.complete-requires-clause-fit
 complete-requires-clause-fit g c = behind_fits _ _ (g.W.Words.means.view c.args.table.now c.args.seat.now) _ c.args.chunk c.requires.behind.1
@@ -18,10 +19,13 @@ complete-requires-clause-fit g c = behind_fits _ _ (g.W.Words.means.view c.args.
 pub complete-requires-clause-head : goal.complete-requires-clause-head
 complete-requires-clause-head g c = behind_head _ _ (g.W.Words.means.view c.args.table.now c.args.seat.now) _ c.args.chunk c.requires.behind.1
 
-pub new_place-requires-clause-next : goal.new_place-requires-clause-next
-new_place-requires-clause-next g c =
-    sym (begun_one_more (site_of (g.W.Words.means.setup c.args.table.now) (g.W.Words.means.place c.args.seat.now) c.args.route.now) c.requires.behind.0 (g.W.Words.means.view c.args.table.now c.args.seat.now)
-    (g.W.Words.means.view c.complete.new.table c.complete.new.seat) c.args.pending.now c.args.chunk _ c.complete.ensures.view c.requires.behind.1)
+pub new_place-requires-clause-may_claim : goal.new_place-requires-clause-may_claim
+new_place-requires-clause-may_claim g c = record {
+  asks = asks_behind_step g.met.H.HelperOn.needs_stay c.complete.ensures.quiet.step c.requires.may_ask;
+  position_is = sym (begun_one_more (site_of (g.W.Words.means.setup c.args.table.now) (g.W.Words.means.place c.args.seat.now) c.args.route.now) c.requires.behind.0 (g.W.Words.means.view c.args.table.now c.args.seat.now)
+      (g.W.Words.means.view c.complete.new.table c.complete.new.seat) c.args.pending.now c.args.chunk _ c.complete.ensures.view c.requires.behind.1);
+  position_fits = let ids = c.requires.ids in omega (arith, ids);
+}
 
 pub returns-then-has_room-clause-place : goal.returns-then-has_room-clause-place
 returns-then-has_room-clause-place g c = λ account behind.
@@ -58,7 +62,7 @@ new_place-requires-clause-none_held g c =
 pub returns-then-has_room-clause-work : goal.returns-then-has_room-clause-work
 returns-then-has_room-clause-work g c =
     work_none g.W.Words.means g.H.HelperOn.needs g.H.HelperOn.helps
-    c.args.route.now c.args.help.now c.args.table.now c.args.seat.now c.args.steps.now c.requires.seat c.requires.needs
+    c.args.route.now c.args.help.now c.args.table.now c.args.seat.now c.args.steps.now c.requires.may_ask.seat_sits c.requires.may_ask.needed
 
 pub returns-clause-work : goal.returns-clause-work
 returns-clause-work g c =

@@ -14,26 +14,26 @@ pub claim_over-requires-clause-id : goal.claim_over-requires-clause-id
 claim_over-requires-clause-id g c =
     let i = c.claims.invariant in
     next_id (g.W.Words.means.setup c.args.table.now) (g.W.Words.means.setup c.claims.table) (g.W.Words.means.place c.args.seat.now) (g.W.Words.means.place c.claims.seat) c.args.route.now
-    c.args.next_position (length (g.W.Words.means.view c.claims.table c.claims.seat).begun) c.id_of-id.result c.requires.route i.work.others.setup_stays i.work.others.place_stays
-    (c.requires.position ∙ ap length (sym i.none.begun)) c.id_of-id.ensures
+    c.args.next_position (length (g.W.Words.means.view c.claims.table c.claims.seat).begun) c.id_of-id.result c.requires.may_claim.asks.route_is i.work.others.setup_stays i.work.others.place_stays
+    (c.requires.may_claim.position_is ∙ ap length (sym i.none.begun)) c.id_of-id.ensures
 
 pub claim_over-requires-clause-few_begun : goal.claim_over-requires-clause-few_begun
 claim_over-requires-clause-few_begun g c =
-    subst (λ (n : ℕ). n < 4294967295) (c.requires.position ∙ ap length (sym c.claims.invariant.none.begun)) c.requires.position_fits
+    subst (λ (n : ℕ). n < 4294967295) (c.requires.may_claim.position_is ∙ ap length (sym c.claims.invariant.none.begun)) c.requires.may_claim.position_fits
 
 pub returns-in-Some-clause-begun : goal.returns-in-Some-clause-begun
 returns-in-Some-clause-begun g c =
     let i = c.claims.invariant in
     begun_as (g.W.Words.means.setup c.args.table.now) (g.W.Words.means.setup c.claims.table) c.in-Some.held.chunk c.args.next_position
-    (length (g.W.Words.means.view c.claims.table c.claims.seat).begun) c.in-Some.held i.work.others.setup_stays (c.requires.position ∙ ap length (sym i.none.begun)) c.in-Some.ensures.begun
+    (length (g.W.Words.means.view c.claims.table c.claims.seat).begun) c.in-Some.held i.work.others.setup_stays (c.requires.may_claim.position_is ∙ ap length (sym i.none.begun)) c.in-Some.ensures.begun
 
 pub claims-init : goal.claims-init
 claims-init g c = record {
   none = none_yet (g.W.Words.means.view c.args.table.now c.args.seat.now);
   work = work_none g.W.Words.means g.H.HelperOn.needs g.H.HelperOn.helps
-      c.args.route.now c.args.help.now c.args.table.now c.args.seat.now c.args.steps.now c.requires.seat c.requires.needs;
+      c.args.route.now c.args.help.now c.args.table.now c.args.seat.now c.args.steps.now c.requires.may_claim.asks.seat_sits c.requires.may_claim.asks.needed;
   begins = work_none g.W.Words.means g.H.HelperOn.needs g.H.HelperOn.helps
-      c.args.route.now c.args.help.now c.args.table.now c.args.seat.now c.args.steps.now c.requires.seat c.requires.needs;
+      c.args.route.now c.args.help.now c.args.table.now c.args.seat.now c.args.steps.now c.requires.may_claim.asks.seat_sits c.requires.may_claim.asks.needed;
 }
 
 pub returns-in-Some-clause-won : goal.returns-in-Some-clause-won

@@ -11,26 +11,26 @@ pub claim_over-requires-clause-id : goal.claim_over-requires-clause-id
 claim_over-requires-clause-id g c =
     let i = c.tries.invariant in
     next_id (g.W.Words.means.setup c.args.table.now) (g.W.Words.means.setup c.tries.table) (g.W.Words.means.place c.args.seat.now) (g.W.Words.means.place c.tries.seat) c.args.route.now
-    c.args.next_position (length (g.W.Words.means.view c.tries.table c.tries.seat).begun) c.id_of-id.result c.requires.route i.trying.others.setup_stays i.trying.others.place_stays
-    (c.requires.position ∙ ap length (sym i.none.begun)) c.id_of-id.ensures
+    c.args.next_position (length (g.W.Words.means.view c.tries.table c.tries.seat).begun) c.id_of-id.result c.requires.may_claim.asks.route_is i.trying.others.setup_stays i.trying.others.place_stays
+    (c.requires.may_claim.position_is ∙ ap length (sym i.none.begun)) c.id_of-id.ensures
 
 pub claim_over-requires-clause-few_begun : goal.claim_over-requires-clause-few_begun
 claim_over-requires-clause-few_begun g c =
-    subst (λ (n : ℕ). n < 4294967295) (c.requires.position ∙ ap length (sym c.tries.invariant.none.begun)) c.requires.position_fits
+    subst (λ (n : ℕ). n < 4294967295) (c.requires.may_claim.position_is ∙ ap length (sym c.tries.invariant.none.begun)) c.requires.may_claim.position_fits
 
 pub returns-in-Some-clause-begun : goal.returns-in-Some-clause-begun
 returns-in-Some-clause-begun g c =
     let i = c.tries.invariant in
     begun_as (g.W.Words.means.setup c.args.table.now) (g.W.Words.means.setup c.tries.table) c.in-Some.held.chunk c.args.next_position
-    (length (g.W.Words.means.view c.tries.table c.tries.seat).begun) c.in-Some.held i.trying.others.setup_stays (c.requires.position ∙ ap length (sym i.none.begun)) c.in-Some.ensures.begun
+    (length (g.W.Words.means.view c.tries.table c.tries.seat).begun) c.in-Some.held i.trying.others.setup_stays (c.requires.may_claim.position_is ∙ ap length (sym i.none.begun)) c.in-Some.ensures.begun
 
 pub tries-init : goal.tries-init
 tries-init g c = record {
   none = none_yet (g.W.Words.means.view c.args.table.now c.args.seat.now);
   trying = trying_none g.W.Words.means g.H.HelperOn.needs g.H.HelperOn.helps
-      c.args.route.now c.args.tries c.args.help.now c.args.table.now c.args.seat.now c.args.steps.now c.requires.seat c.requires.needs;
+      c.args.route.now c.args.tries c.args.help.now c.args.table.now c.args.seat.now c.args.steps.now c.requires.may_claim.asks.seat_sits c.requires.may_claim.asks.needed;
   begins = λ holds. trying_none g.W.Words.means g.H.HelperOn.needs g.H.HelperOn.helps
-      c.args.route.now c.args.tries c.args.help.now c.args.table.now c.args.seat.now c.args.steps.now c.requires.seat c.requires.needs;
+      c.args.route.now c.args.tries c.args.help.now c.args.table.now c.args.seat.now c.args.steps.now c.requires.may_claim.asks.seat_sits c.requires.may_claim.asks.needed;
 }
 
 pub returns-in-Some-clause-work : goal.returns-in-Some-clause-work

@@ -23,7 +23,7 @@ returns-in-Writing-clause-written g c =
     let agrees = agrees_behind (g.W.Words.means.setup c.args.table.now) (g.W.Words.means.place c.args.seat.now) (g.W.Words.means.view c.args.table.now c.args.seat.now)
     (g.W.Words.means.view c.put_field-flow.new.table c.put_field-flow.new.seat) (g.W.Words.means.view c.go_on.new.table c.go_on.new.seat)
     c.args.writer.now c.go_on.new.writer c.take_state.new.state c.put_field-flow.new.pending c.in-Writing.fragment c.in-Some.packet c.add_field.new.self count
-    (with_more bytes) (call_of c.args.call) c.put_field-flow.result c.requires.agrees (sym c.in-Writing.ensures.taken) c.in-Some.is
+    (with_more bytes) (call_of c.args.call) c.put_field-flow.result c.requires.ready.at_work.agrees (sym c.in-Writing.ensures.taken) c.in-Some.is
     (grows_more bytes count long)
     (λ (packet : Packet) some m. measured_more c.in-Some.packet c.add_field.new.self packet bytes count long
     (c.add_field.ensures.len ∙ ap (λ (n : ℕ). c.in-Some.packet.len + (length c.args.head.now + n * length c.args.text.now)) c.from.ensures) c.add_field.ensures.starts some m)
@@ -49,7 +49,7 @@ returns-in-Writing-clause-written g c =
             c.put_field-flow.ensures.work c.go_on.ensures.quiet
             noted.0 noted.1,
         λ stops. writing_not_lost (g.W.Words.means.setup c.args.table.now) (g.W.Words.means.place c.args.seat.now) (g.W.Words.means.view c.args.table.now c.args.seat.now) c.args.writer.now c.in-Writing.fragment
-            c.requires.agrees (sym c.in-Writing.ensures.taken),
+            c.requires.ready.at_work.agrees (sym c.in-Writing.ensures.taken),
       );
     }
 
@@ -60,12 +60,12 @@ returns-in-Dropping-clause-written g c =
     let long = field_long c.args.head.now c.args.text.now c.args.times in
     let agrees = agrees_dropping (g.W.Words.means.setup c.args.table.now) (g.W.Words.means.place c.args.seat.now) (g.W.Words.means.view c.args.table.now c.args.seat.now)
     (g.W.Words.means.view c.note_call.new.self c.note_call.new.seat) c.args.writer.now c.put_state.new.state c.in-Dropping.next_position c.in-Some.packet c.add_field.new.self
-    count (with_more bytes) (call_of c.args.call) c.requires.agrees (sym c.in-Dropping.ensures.taken) c.put_state.ensures c.in-Some.is
+    count (with_more bytes) (call_of c.args.call) c.requires.ready.at_work.agrees (sym c.in-Dropping.ensures.taken) c.put_state.ensures c.in-Some.is
     (grows_more bytes count long)
     (λ (packet : Packet) some m. measured_more c.in-Some.packet c.add_field.new.self packet bytes count long
     (c.add_field.ensures.len ∙ ap (λ (n : ℕ). c.in-Some.packet.len + (length c.args.head.now + n * length c.args.text.now)) c.from.ensures) c.add_field.ensures.starts some m)
     c.requires.call c.note_call.ensures.view in
     written_alone g.W.Words.means g.H.HelperOn.needs g.H.HelperOn.helps (call_of c.args.call) c.args.writer.now c.args.help.now c.args.table.now c.args.seat.now c.args.steps.now _
-    (record c.args.writer.now { state = c.put_state.new.state; packet = Some c.add_field.new.self }) c.note_call.new.self c.note_call.new.seat _ c.requires.seat g.met.H.HelperOn.needs_stay
-    c.requires.needs agrees refl (ap is_stalled (sym c.in-Dropping.ensures.taken)) (ap is_stalled c.put_state.ensures)
+    (record c.args.writer.now { state = c.put_state.new.state; packet = Some c.add_field.new.self }) c.note_call.new.self c.note_call.new.seat _ c.requires.ready.at_work.seat_sits g.met.H.HelperOn.needs_stay
+    c.requires.ready.needed agrees refl (ap is_stalled (sym c.in-Dropping.ensures.taken)) (ap is_stalled c.put_state.ensures)
     c.note_call.ensures.step c.note_call.ensures.view c.note_call.ensures.told

@@ -22,7 +22,7 @@ noted_tag field tag is account = ap (λ (t : List ℕ). on_newest (λ (packet : 
 pub put_nested-flow-requires-clause-few : goal.put_nested-flow-requires-clause-few
 put_nested-flow-requires-clause-few g c =
     let many = as_many_holes (g.W.Words.means.setup c.args.table.now) (g.W.Words.means.place c.args.seat.now) (g.W.Words.means.view c.args.table.now c.args.seat.now)
-    c.args.writer.now c.in-Writing.fragment c.in-Some.packet c.requires.agrees (sym c.in-Writing.ensures.taken) c.in-Some.is in
+    c.args.writer.now c.in-Writing.fragment c.in-Some.packet c.requires.ready.at_work.agrees (sym c.in-Writing.ensures.taken) c.in-Some.is in
     subst (λ (n : ℕ). n < 16) (sym many) (subst (λ (o : Option OpenPacket). open_message_count o < 16) c.in-Some.is c.requires.depth)
 
 pub returns-in-Writing-clause-written : goal.returns-in-Writing-clause-written
@@ -31,7 +31,7 @@ returns-in-Writing-clause-written g c =
     let agrees = agrees_behind (g.W.Words.means.setup c.args.table.now) (g.W.Words.means.place c.args.seat.now) (g.W.Words.means.view c.args.table.now c.args.seat.now)
     (g.W.Words.means.view c.put_nested-flow.new.table c.put_nested-flow.new.seat) (g.W.Words.means.view c.go_on.new.table c.go_on.new.seat)
     c.args.writer.now c.go_on.new.writer c.take_state.new.state c.put_nested-flow.new.pending c.in-Writing.fragment c.in-Some.packet c.add_nested.new.self
-    (length tag + 4) (λ (packet : Packet). with_open (with_more tag packet)) (call.Nested c.args.field) c.put_nested-flow.result c.requires.agrees
+    (length tag + 4) (λ (packet : Packet). with_open (with_more tag packet)) (call.Nested c.args.field) c.put_nested-flow.result c.requires.ready.at_work.agrees
     (sym c.in-Writing.ensures.taken) c.in-Some.is (grows_nested tag)
     (λ (packet : Packet) some m. measured_nested c.in-Some.packet c.add_nested.new.self packet tag (length tag) refl c.add_nested.ensures.len c.add_nested.ensures.starts some m)
     (subst (λ (o : Option OpenPacket). len_of o + (length tag + 4) ≤ 1048576) c.in-Some.is
@@ -57,7 +57,7 @@ returns-in-Writing-clause-written g c =
             c.put_nested-flow.ensures.work c.go_on.ensures.quiet
             noted.0 noted.1,
         λ stops. writing_not_lost (g.W.Words.means.setup c.args.table.now) (g.W.Words.means.place c.args.seat.now) (g.W.Words.means.view c.args.table.now c.args.seat.now) c.args.writer.now c.in-Writing.fragment
-            c.requires.agrees (sym c.in-Writing.ensures.taken),
+            c.requires.ready.at_work.agrees (sym c.in-Writing.ensures.taken),
       );
     }
 
@@ -66,11 +66,11 @@ returns-in-Dropping-clause-written g c =
     let tag = c.as_slice-tag.result.now in
     let agrees = agrees_dropping (g.W.Words.means.setup c.args.table.now) (g.W.Words.means.place c.args.seat.now) (g.W.Words.means.view c.args.table.now c.args.seat.now)
     (g.W.Words.means.view c.note_call.new.self c.note_call.new.seat) c.args.writer.now c.put_state.new.state c.in-Dropping.next_position c.in-Some.packet c.add_nested.new.self
-    (length tag + 4) (λ (packet : Packet). with_open (with_more tag packet)) (call.Nested c.args.field) c.requires.agrees (sym c.in-Dropping.ensures.taken)
+    (length tag + 4) (λ (packet : Packet). with_open (with_more tag packet)) (call.Nested c.args.field) c.requires.ready.at_work.agrees (sym c.in-Dropping.ensures.taken)
     c.put_state.ensures c.in-Some.is (grows_nested tag)
     (λ (packet : Packet) some m. measured_nested c.in-Some.packet c.add_nested.new.self packet tag (length tag) refl c.add_nested.ensures.len c.add_nested.ensures.starts some m)
     (noted_tag c.args.field tag (c.as_slice-tag.ensures ∙ c.head_nested-head.ensures)) c.note_call.ensures.view in
     written_alone g.W.Words.means g.H.HelperOn.needs g.H.HelperOn.helps (call.Nested c.args.field) c.args.writer.now c.args.help.now c.args.table.now c.args.seat.now c.args.steps.now _
-    (record c.args.writer.now { state = c.put_state.new.state; packet = Some c.add_nested.new.self }) c.note_call.new.self c.note_call.new.seat _ c.requires.seat g.met.H.HelperOn.needs_stay
-    c.requires.needs agrees refl (ap is_stalled (sym c.in-Dropping.ensures.taken)) (ap is_stalled c.put_state.ensures)
+    (record c.args.writer.now { state = c.put_state.new.state; packet = Some c.add_nested.new.self }) c.note_call.new.self c.note_call.new.seat _ c.requires.ready.at_work.seat_sits g.met.H.HelperOn.needs_stay
+    c.requires.ready.needed agrees refl (ap is_stalled (sym c.in-Dropping.ensures.taken)) (ap is_stalled c.put_state.ensures)
     c.note_call.ensures.step c.note_call.ensures.view c.note_call.ensures.told

@@ -6,8 +6,12 @@ use Rattle.std.proofs.lemmas.Bool.{true≢false}
 use Rattle.trace_writer.specs.declared.state.Writer.{Writer}
 use Rattle.trace_writer.specs.Empty.{is_empty, is_stalled}
 use Rattle.trace_writer.proofs.packets.InPlace.{agrees_put, needs_empty}
-use Rattle.trace_writer.proofs.packets.Written.{written_alone, written_after_all}
+use Rattle.trace_writer.proofs.packets.Written.{written_alone, ready_after_all, written_after_all}
 use Rattle.trace_writer.proofs.field.write_number.Goals as goal
+
+pub write_number_on-requires-clause-ready : goal.write_number_on-requires-clause-ready
+write_number_on-requires-clause-ready g c =
+    ready_after_all (c.put_number_here.ensures.unchanged c.if-put_number_here.false) c.requires.ready
 
 pub returns-then-put_number_here-clause-written : goal.returns-then-put_number_here-clause-written
 returns-then-put_number_here-clause-written g c =
@@ -15,10 +19,10 @@ returns-then-put_number_here-clause-written g c =
     let call = Number c.args.field c.args.value in
     let agrees = agrees_put (g.W.Words.means.setup c.args.table.now) (g.W.Words.means.place c.args.seat.now) (g.W.Words.means.view c.args.table.now c.args.seat.now)
     (g.W.Words.means.view c.note_call.new.self c.note_call.new.seat) c.args.writer.now c.put_number_here.new.writer (number_field c.args.field c.args.value)
-    call c.requires.agrees puts (subst (λ (n : ℕ). len_of c.args.writer.now.packet + n ≤ 1048576) c.requires.size c.requires.fits)
+    call c.requires.ready.at_work.agrees puts (subst (λ (n : ℕ). len_of c.args.writer.now.packet + n ≤ 1048576) c.requires.size c.requires.fits)
     (λ account. refl) c.note_call.ensures.view in
     written_alone g.W.Words.means g.H.HelperOn.needs g.H.HelperOn.helps call c.args.writer.now c.args.help.now c.args.table.now c.args.seat.now c.args.steps.now _
-    c.put_number_here.new.writer c.note_call.new.self c.note_call.new.seat _ c.requires.seat g.met.H.HelperOn.needs_stay c.requires.needs agrees
+    c.put_number_here.new.writer c.note_call.new.self c.note_call.new.seat _ c.requires.ready.at_work.seat_sits g.met.H.HelperOn.needs_stay c.requires.ready.needed agrees
     (ap (λ (writer : Writer). writer.route) puts.new_is) (ap is_stalled puts.was) (ap (λ (writer : Writer). is_stalled writer.state) puts.new_is)
     c.note_call.ensures.step c.note_call.ensures.view c.note_call.ensures.told
 

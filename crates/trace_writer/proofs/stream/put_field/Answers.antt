@@ -6,7 +6,11 @@ use Rattle.trace_writer.specs.Flows.{IsInPacket, Flows, is_stopped}
 use Rattle.trace_writer.proofs.packets.Putting.{inside_behind}
 use Rattle.trace_writer.proofs.accounts.Calling.{writes_behind, field_long}
 use Rattle.trace_writer.proofs.claims.Working.{work_behind}
+use Rattle.trace_writer.proofs.claims.MayAskStill.{asks_behind_work}
 use Rattle.trace_writer.proofs.stream.put_field.Goals as goal
+
+pub put_times-requires-clause-may_ask : goal.put_times-requires-clause-may_ask
+put_times-requires-clause-may_ask g c = asks_behind_work c.in-Going.ensures.work c.requires.may_ask
 
 pub put_times-requires-clause-inside : goal.put_times-requires-clause-inside
 put_times-requires-clause-inside g c =

@@ -19,7 +19,7 @@ returns-then-put_hole-clause-flow g c =
 pub returns-then-put_hole-clause-work : goal.returns-then-put_hole-clause-work
 returns-then-put_hole-clause-work g c =
     work_none g.W.Words.means g.H.HelperOn.needs g.H.HelperOn.helps
-    c.args.route.now c.args.help.now c.args.table.now c.args.seat.now c.args.steps.now c.requires.seat c.requires.needs
+    c.args.route.now c.args.help.now c.args.table.now c.args.seat.now c.args.steps.now c.requires.may_ask.seat_sits c.requires.may_ask.needed
 
 pub returns-in-Going-clause-flow : goal.returns-in-Going-clause-flow
 returns-in-Going-clause-flow g c =
@@ -30,8 +30,8 @@ returns-in-Going-clause-flow g c =
     (subst (λ (p : Pending). RunsOn site old new p c.run_on.new.pending c.put_hole.new.self first) (c.put_hole.ensures.none_added none) c.in-Going.ensures.flow) in
     let below : vec_len c.args.fragment.held.body.payload < c.args.fragment.at + 4 =
     leb-false (c.args.fragment.at + 4) (vec_len c.args.fragment.held.body.payload) (sym c.put_hole.ensures.fits ∙ none) in
-    let low : 281 ≤ c.args.fragment.at = omega (arith, below, c.requires.inside.inside.whole, c.requires.route.least) in
+    let low : 281 ≤ c.args.fragment.at = omega (arith, below, c.requires.inside.inside.whole, c.requires.may_ask.route_is.least) in
     let fits : c.put_hole-in-Going.result ≡ true =
-    c.put_hole-in-Going.ensures.fits ∙ le-leb (first.at + 4) (vec_len first.held.body.payload) (omega (arith, runs.size, runs.at, c.requires.route.least)) in
+    c.put_hole-in-Going.ensures.fits ∙ le-leb (first.at + 4) (vec_len first.held.body.payload) (omega (arith, runs.size, runs.at, c.requires.may_ask.route_is.least)) in
     sets_behind site old new c.args.pending.now c.run_on.new.pending c.put_hole-in-Going.new.pending c.args.fragment first c.put_hole-in-Going.new.self
     runs low (c.put_hole-in-Going.ensures.bytes fits) (c.put_hole-in-Going.ensures.at fits) (c.put_hole-in-Going.ensures.added fits) c.requires.few

@@ -5,7 +5,11 @@ use Rattle.trace_writer.specs.Flows.{IsInPacket, SetsLength, is_stopped}
 use Rattle.trace_writer.proofs.packets.Putting.{inside_behind}
 use Rattle.trace_writer.proofs.accounts.Calling.{writes_nested, nested_lost}
 use Rattle.trace_writer.proofs.claims.Working.{work_behind}
+use Rattle.trace_writer.proofs.claims.MayAskStill.{asks_behind_work}
 use Rattle.trace_writer.proofs.stream.put_nested.Goals as goal
+
+pub put_length-requires-clause-may_ask : goal.put_length-requires-clause-may_ask
+put_length-requires-clause-may_ask g c = asks_behind_work c.in-Going.ensures.work c.requires.may_ask
 
 pub put_length-requires-clause-inside : goal.put_length-requires-clause-inside
 put_length-requires-clause-inside g c =

@@ -4,12 +4,16 @@ use Rattle.trace_writer.specs.Site.{Site, site_of}
 use Rattle.trace_writer.specs.Flows.{IsInPacket, RunsOn, StopsHere}
 use Rattle.trace_writer.proofs.packets.Putting.{PutsSoFar, puts_none, puts_part, puts_run, puts_lost, puts_all, inside_so_far, full_when_left, left_is, left_none, left_some, ids_most}
 use Rattle.trace_writer.proofs.claims.Working.{work_none, work_behind}
+use Rattle.trace_writer.proofs.claims.MayAskStill.{asks_behind_work}
 use Rattle.trace_writer.proofs.stream.put_piece.Goals as goal
+
+pub run_on-requires-clause-may_ask : goal.run_on-requires-clause-may_ask
+run_on-requires-clause-may_ask g c = asks_behind_work c.chunks.invariant.work c.requires.may_ask
 
 pub chunks-init : goal.chunks-init
 chunks-init g c = record {
   work = work_none g.W.Words.means g.H.HelperOn.needs g.H.HelperOn.helps
-      c.args.route.now c.args.help.now c.args.table.now c.args.seat.now c.args.steps.now c.requires.seat c.requires.needs;
+      c.args.route.now c.args.help.now c.args.table.now c.args.seat.now c.args.steps.now c.requires.may_ask.seat_sits c.requires.may_ask.needed;
   so_far = puts_none (site_of (g.W.Words.means.setup c.args.table.now) (g.W.Words.means.place c.args.seat.now) c.args.route.now)
       (g.W.Words.means.view c.args.table.now c.args.seat.now) c.args.pending.now c.args.fragment c.args.piece.now;
 }
@@ -72,7 +76,7 @@ chunks-preserved g c =
           (puts_run site old mid new c.args.pending.now c.chunks.pending c.run_on.new.pending c.args.fragment c.put-count.new.self c.in-Going.next c.args.piece.now (drop count rest)
           part
           (subst (λ (s : Site). RunsOn s mid new c.chunks.pending c.run_on.new.pending c.put-count.new.self c.in-Going.next) site_is c.in-Going.ensures.flow)
-          full c.requires.route.least left);
+          full c.requires.may_ask.route_is.least left);
     }
 
 pub returns-in-Stopped-clause-flow : goal.returns-in-Stopped-clause-flow

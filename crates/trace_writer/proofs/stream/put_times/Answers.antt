@@ -6,12 +6,16 @@ use Rattle.trace_writer.specs.Site.{Site, site_of}
 use Rattle.trace_writer.specs.Flows.{IsInPacket, PutsOn, StopsIn}
 use Rattle.trace_writer.proofs.packets.Putting.{inside_behind, puts_nothing, puts_here, times_next, times_lost, times_ids}
 use Rattle.trace_writer.proofs.claims.Working.{work_none, work_behind}
+use Rattle.trace_writer.proofs.claims.MayAskStill.{asks_behind_work}
 use Rattle.trace_writer.proofs.stream.put_times.Goals as goal
+
+pub put_piece-requires-clause-may_ask : goal.put_piece-requires-clause-may_ask
+put_piece-requires-clause-may_ask g c = asks_behind_work c.loop-turn.invariant.work c.requires.may_ask
 
 pub loop-turn-init : goal.loop-turn-init
 loop-turn-init g c = record {
   work = work_none g.W.Words.means g.H.HelperOn.needs g.H.HelperOn.helps
-      c.args.route.now c.args.help.now c.args.table.now c.args.seat.now c.args.steps.now c.requires.seat c.requires.needs;
+      c.args.route.now c.args.help.now c.args.table.now c.args.seat.now c.args.steps.now c.requires.may_ask.seat_sits c.requires.may_ask.needed;
   puts = puts_nothing (site_of (g.W.Words.means.setup c.args.table.now) (g.W.Words.means.place c.args.seat.now) c.args.route.now)
       (g.W.Words.means.view c.args.table.now c.args.seat.now) c.args.pending.now c.args.fragment;
 }

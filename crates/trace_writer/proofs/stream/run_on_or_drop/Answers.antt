@@ -26,13 +26,13 @@ claim_over-requires-clause-id g c =
 pub claim_over-requires-clause-few_begun : goal.claim_over-requires-clause-few_begun
 claim_over-requires-clause-few_begun g c =
     let i = c.requires.inside in
-    subst (λ (n : ℕ). n < 4294967295) (next_position _ i.packet i.older _ c.args.pending.now c.args.fragment i.inside) (next_fits c.args.fragment c.requires.ids)
+    subst (λ (n : ℕ). n < 4294967295) (next_position _ i.packet i.older _ c.args.pending.now c.args.fragment i.inside) (next_fits c.args.fragment c.requires.ends.ids)
 
 pub new-requires-clause-position_fits : goal.new-requires-clause-position_fits
 new-requires-clause-position_fits g c =
     let i = c.requires.inside in
     subst (λ (n : ℕ). n < 4294967295) (next_position _ i.packet i.older _ c.args.pending.now c.args.fragment i.inside ∙ sym c.in-Some.ensures.begun.position_is)
-    (next_fits c.args.fragment c.requires.ids)
+    (next_fits c.args.fragment c.requires.ends.ids)
 
 pub complete-requires-clause-from : goal.complete-requires-clause-from
 complete-requires-clause-from g c =
@@ -105,13 +105,13 @@ returns-clause-flow g c =
     let i = c.requires.inside in let e = c.end.ensures in let n = c.new.ensures in let b = c.in-Some.ensures.begun in let s = c.start_fragment.ensures in
     let new = g.W.Words.means.view c.start_fragment.new.table c.start_fragment.new.seat in
     let ends = ends_as c.args.fragment c.end.result e.held e.bytes e.sealed e.count e.continues in
-    runs_on site old new c.args.pending.now c.complete.new.pending c.args.fragment c.start_fragment.result c.requires.route.least c.requires.filled
+    runs_on site old new c.args.pending.now c.complete.new.pending c.args.fragment c.start_fragment.result c.requires.route.least c.requires.ends.filled
     (goes_on_in site old two new c.args.pending.now c.complete.new.pending c.args.fragment c.end.result c.new.result c.in-Some.next c.start_fragment.result
     (next_first setup place (g.W.Words.means.place c.claim_over.new.seat) c.in-Some.next.chunk route old one two c.args.pending.now c.args.fragment c.end.result c.requires.route
     (wins_in_turn setup route c.in-Some.next.chunk old old one (none_yet old) c.in-Some.ensures.won) ends c.in-Some.ensures.step.place_stays c.complete.ensures.view)
     ends c.complete.ensures.pending
     (record { held = n.held; sealed = n.sealed; at = n.at; count = n.count; continues = n.continues; position = b.position_is ∙ sym (next_position site i.packet i.older old c.args.pending.now c.args.fragment i.inside); whole = b.whole })
-    (record { held = s.held; start = s.start; at = s.at; count = s.count; continues = s.continues }) s.view)
+    s.started s.view)
 
 pub returns-in_default-clause-round : goal.returns-in_default-clause-round
 returns-in_default-clause-round g c =

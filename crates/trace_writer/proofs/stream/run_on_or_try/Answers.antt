@@ -9,22 +9,26 @@ use Rattle.trace_writer.proofs.holding.KeptChunks.{keeps_long}
 use Rattle.trace_writer.proofs.claims.QuietRows.{silent_both}
 use Rattle.trace_writer.proofs.packets.RunOn.{few_inside, next_position, next_position_after, ends_as, held_behind, ended_fits, ended_head, next_first, run_fits, run_follows, goes_on_in, runs_on, cannot_run_on}
 use Rattle.trace_writer.proofs.stream.run_on_or_try.Goals as goal
-use Rattle.trace_writer.proofs.claims.RouteIds.{route_from_now}
+use Rattle.trace_writer.proofs.claims.RouteIds.{next_fits, route_from_now}
 
 pub complete-requires-clause-from : goal.complete-requires-clause-from
 complete-requires-clause-from g c =
     route_from_now (g.W.Words.means.setup c.args.table.now) (g.W.Words.means.setup c.claim_trying.new.table) (g.W.Words.means.place c.args.seat.now) (g.W.Words.means.place c.claim_trying.new.seat)
-    c.args.route.now c.requires.route c.claim_trying.ensures.work.others.setup_stays c.claim_trying.ensures.work.others.place_stays
+    c.args.route.now c.requires.may_ask.route_is c.claim_trying.ensures.work.others.setup_stays c.claim_trying.ensures.work.others.place_stays
 
 pub claim_trying-requires-clause-few : goal.claim_trying-requires-clause-few
 claim_trying-requires-clause-few g c =
     let i = c.requires.inside in
     few_inside _ i.packet i.older _ c.args.pending.now c.args.fragment i.inside
 
-pub claim_trying-requires-clause-position : goal.claim_trying-requires-clause-position
-claim_trying-requires-clause-position g c =
+pub claim_trying-requires-clause-may_claim : goal.claim_trying-requires-clause-may_claim
+claim_trying-requires-clause-may_claim g c =
     let i = c.requires.inside in
-    next_position _ i.packet i.older _ c.args.pending.now c.args.fragment i.inside
+    record {
+      asks = c.requires.may_ask;
+      position_is = next_position _ i.packet i.older _ c.args.pending.now c.args.fragment i.inside;
+      position_fits = next_fits c.args.fragment c.requires.ends.ids;
+    }
 
 pub returns-in_default-clause-flow : goal.returns-in_default-clause-flow
 returns-in_default-clause-flow g c =
@@ -66,7 +70,7 @@ start_fragment-requires-clause-fit g c =
     let i = c.requires.inside in let e = c.end.ensures in let n = c.new.ensures in let b = c.in-Some.ensures.begun in
     subst (λ (s : Setup). IsFit s two c.new.result c.new.result.count c.new.result.at) (sym (c.complete.ensures.quiet.step.setup_stays ∙ c.in-Some.ensures.work.others.setup_stays))
     (run_fits site i.packet i.older old two c.args.pending.now c.args.fragment c.end.result.held.body.payload.items c.new.result c.in-Some.next i.inside
-    (next_first setup place (g.W.Words.means.place c.claim_trying.new.seat) c.in-Some.next.chunk route old one two c.args.pending.now c.args.fragment c.end.result c.requires.route
+    (next_first setup place (g.W.Words.means.place c.claim_trying.new.seat) c.in-Some.next.chunk route old one two c.args.pending.now c.args.fragment c.end.result c.requires.may_ask.route_is
     c.in-Some.ensures.won
     (ends_as c.args.fragment c.end.result e.held e.bytes e.sealed e.count e.continues) c.in-Some.ensures.work.others.place_stays c.complete.ensures.view)
     (record { held = n.held; sealed = n.sealed; at = n.at; count = n.count; continues = n.continues; position = b.position_is; whole = b.whole }))
@@ -79,7 +83,7 @@ start_fragment-requires-clause-head g c =
     let i = c.requires.inside in let e = c.end.ensures in let n = c.new.ensures in let b = c.in-Some.ensures.begun in
     run_follows site i.packet i.older old two c.args.pending.now c.args.fragment c.end.result.held.body.payload.items c.new.result c.in-Some.next
     (held_head (c.new.result.count + 1) c.new.result.continues) i.inside
-    (next_first setup place (g.W.Words.means.place c.claim_trying.new.seat) c.in-Some.next.chunk route old one two c.args.pending.now c.args.fragment c.end.result c.requires.route
+    (next_first setup place (g.W.Words.means.place c.claim_trying.new.seat) c.in-Some.next.chunk route old one two c.args.pending.now c.args.fragment c.end.result c.requires.may_ask.route_is
     c.in-Some.ensures.won
     (ends_as c.args.fragment c.end.result e.held e.bytes e.sealed e.count e.continues) c.in-Some.ensures.work.others.place_stays c.complete.ensures.view)
     (record { held = n.held; sealed = n.sealed; at = n.at; count = n.count; continues = n.continues; position = b.position_is; whole = b.whole })
@@ -92,13 +96,13 @@ returns-clause-flow g c =
     let i = c.requires.inside in let e = c.end.ensures in let n = c.new.ensures in let b = c.in-Some.ensures.begun in let s = c.start_fragment.ensures in
     let new = g.W.Words.means.view c.start_fragment.new.table c.start_fragment.new.seat in
     let ends = ends_as c.args.fragment c.end.result e.held e.bytes e.sealed e.count e.continues in
-    runs_on site old new c.args.pending.now c.complete.new.pending c.args.fragment c.start_fragment.result c.requires.route.least c.requires.filled
+    runs_on site old new c.args.pending.now c.complete.new.pending c.args.fragment c.start_fragment.result c.requires.may_ask.route_is.least c.requires.ends.filled
     (goes_on_in site old two new c.args.pending.now c.complete.new.pending c.args.fragment c.end.result c.new.result c.in-Some.next c.start_fragment.result
-    (next_first setup place (g.W.Words.means.place c.claim_trying.new.seat) c.in-Some.next.chunk route old one two c.args.pending.now c.args.fragment c.end.result c.requires.route
+    (next_first setup place (g.W.Words.means.place c.claim_trying.new.seat) c.in-Some.next.chunk route old one two c.args.pending.now c.args.fragment c.end.result c.requires.may_ask.route_is
     c.in-Some.ensures.won ends c.in-Some.ensures.work.others.place_stays c.complete.ensures.view)
     ends c.complete.ensures.pending
     (record { held = n.held; sealed = n.sealed; at = n.at; count = n.count; continues = n.continues; position = b.position_is; whole = b.whole })
-    (record { held = s.held; start = s.start; at = s.at; count = s.count; continues = s.continues }) s.view)
+    s.started s.view)
 
 pub returns-in_default-clause-work : goal.returns-in_default-clause-work
 returns-in_default-clause-work g c =

@@ -1,4 +1,4 @@
-use Rattle.std.proofs.Common.{◌+◌, ◌≤◌, ℕ, sym, ap, subst, arith}
+use Rattle.std.proofs.Common.{◌+◌, ◌∙◌, ◌≤◌, rules, ℕ, sym, ap, subst, arith}
 use Rattle.chunk_plain.specs.declared.tokens.Held.{Held}
 use Rattle.chunk_plain.specs.Payload.{sealed_to, HasFragments}
 use Rattle.chunk_plain.specs.Setup.{Setup, spot}
@@ -71,3 +71,12 @@ returns-clause-quiet g c =
     c.publish.new.self c.publish.new.seat c.set_header.new.self c.set_header.new.seat _ _ _ _ _ c.set_header.ensures.step c.set_header.ensures.view
     (holds_still (g.W.Words.means.setup c.args.table.now) (g.W.Words.means.view c.args.table.now c.args.seat.now) (g.W.Words.means.view c.publish.new.self c.publish.new.seat) c.args.self c.args.self.count c.args.self.at c.requires.fit
     c.args.self.order c.args.self.within c.publish.ensures.view c.publish.new.held c.publish.ensures.held) c.set_header.ensures.told)
+
+pub returns-clause-started : goal.returns-clause-started
+returns-clause-started g c = record {
+  held = c.set_header.ensures.held ∙ c.publish.ensures.held;
+  start = search rules;
+  at = search rules;
+  count = search rules;
+  continues = search rules;
+}

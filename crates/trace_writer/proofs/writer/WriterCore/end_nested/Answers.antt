@@ -13,23 +13,23 @@ pub returns-clause-in_packet : goal.returns-clause-in_packet
 returns-clause-in_packet g c =
     let old = g.W.Words.means.view c.args.table.now c.args.self.now.seat in let new = g.W.Words.means.view c.end_message.new.table c.end_message.new.seat in
     either_way (is_stalled c.args.self.now.writer.state)
-    (λ goes. (ended_in old new (c.end_message.ensures.notes goes) c.requires.depth).0)
-    (λ stalled. let stays = c.end_message.ensures.stalled stalled in
+    (λ goes. (ended_in old new (c.end_message.ensures.notes.calls goes) c.requires.depth).0)
+    (λ stalled. let stays = c.end_message.ensures.notes.stays stalled in
     ap (λ (view : WriterView). in_packet view)
     (ap (λ table. g.W.Words.means.view table c.end_message.new.seat) stays.1 ∙ ap (λ seat. g.W.Words.means.view c.args.table.now seat) stays.2)
     ∙ deep_writing old c.requires.depth)
 
 pub returns-clause-depth_falls : goal.returns-clause-depth_falls
 returns-clause-depth_falls g c = λ goes.
-    (ended_in (g.W.Words.means.view c.args.table.now c.args.self.now.seat) (g.W.Words.means.view c.end_message.new.table c.end_message.new.seat) (c.end_message.ensures.notes goes) c.requires.depth).1
+    (ended_in (g.W.Words.means.view c.args.table.now c.args.self.now.seat) (g.W.Words.means.view c.end_message.new.table c.end_message.new.seat) (c.end_message.ensures.notes.calls goes) c.requires.depth).1
 
 pub returns-clause-agrees : goal.returns-clause-agrees
 returns-clause-agrees g c =
     let core = c.args.self.now in let after : WriterCore _ = (record { seat = c.end_message.new.seat; writer = c.end_message.new.writer }) in
     either_way (is_stalled core.writer.state)
     (λ goes. core_ended g.W.Words.means
-    c.args.table.now core c.end_message.new.table after c.requires.agrees c.requires.depth c.end_message.ensures.quiet c.end_message.ensures.agrees (c.end_message.ensures.notes goes))
-    (λ stalled. let is = c.end_message.ensures.stalled stalled in
+    c.args.table.now core c.end_message.new.table after c.requires.agrees c.requires.depth c.end_message.ensures.notes.quiet c.end_message.ensures.notes.agrees (c.end_message.ensures.notes.calls goes))
+    (λ stalled. let is = c.end_message.ensures.notes.stays stalled in
     core_still g.W.Words.means
     c.args.table.now core c.end_message.new.table after c.requires.agrees
     (core_stays core after is.0 is.2) is.1)

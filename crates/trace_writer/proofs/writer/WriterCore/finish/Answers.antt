@@ -10,9 +10,9 @@ returns-clause-agrees g c =
     let core = c.args.self.now in let after : WriterCore _ = (record { seat = c.finish.new.seat; writer = c.finish.new.writer }) in
     either_way (is_stalled core.writer.state)
     (λ goes. core_finished g.W.Words.means
-    c.args.table.now core c.finish.new.table after c.requires.agrees c.requires.begun c.requires.depth goes c.finish.ensures.quiet c.finish.ensures.agrees (c.finish.ensures.notes goes)
+    c.args.table.now core c.finish.new.table after c.requires.agrees c.requires.begun c.requires.depth goes c.finish.ensures.notes.quiet c.finish.ensures.notes.agrees (c.finish.ensures.notes.calls goes)
     (c.finish.ensures.held goes))
-    (λ stalled. let is = c.finish.ensures.stalled stalled in
+    (λ stalled. let is = c.finish.ensures.notes.stays stalled in
     core_still g.W.Words.means
     c.args.table.now core c.finish.new.table after c.requires.agrees
     (core_stays core after is.0 is.2) is.1)

@@ -10,9 +10,9 @@ returns-clause-agrees g c =
     let core = c.args.self.now in let after : WriterCore _ = (record { seat = c.flush.new.seat; writer = c.flush.new.writer }) in
     either_way (is_stalled core.writer.state)
     (λ goes. core_flushed g.W.Words.means
-    c.args.table.now core c.flush.new.table after c.requires.agrees c.requires.none_begun c.flush.ensures.quiet c.flush.ensures.agrees (c.flush.ensures.notes goes)
+    c.args.table.now core c.flush.new.table after c.requires.agrees c.requires.none_begun c.flush.ensures.notes.quiet c.flush.ensures.notes.agrees (c.flush.ensures.notes.calls goes)
     c.flush.ensures.none_held)
-    (λ stalled. let is = c.flush.ensures.stalled stalled in
+    (λ stalled. let is = c.flush.ensures.notes.stays stalled in
     core_still g.W.Words.means
     c.args.table.now core c.flush.new.table after c.requires.agrees
     (core_stays core after is.0 is.2) is.1)
