@@ -1,20 +1,18 @@
 -- What the check has come to: over whole fields, over some bytes of a piece, and over all of it.
-use Rattle.std.proofs.Common.{◌≡◌, ℕ, ◌+◌, ◌-◌, ◌^◌, ◌<◌, ◌≤◌, true, false, List, [], ◌∷◌, length, take, drop, get_or, refl, sym, ap, ◌∙◌, subst, arith, Ok, Err, length-drop, drop-cons}
+use Rattle.std.proofs.Common.{◌≡◌, ℕ, ◌+◌, ◌-◌, ◌^◌, ◌<◌, ◌≤◌, true, List, [], ◌∷◌, length, take, drop, get_or, refl, sym, ap, ◌∙◌, subst, arith, Ok, length-drop, drop-cons}
 use Rattle.std.proofs.lemmas.List.{take-append-drop, length-take-le, take_all}
 use Rattle.std.proofs.Math.Seq.{take-add}
 use Rattle.trace_base.specs.declared.limits.TheConstants.{MAX_INPUT}
 use Rattle.trace_model.specs.Fields.{MessageField}
-use Rattle.trace_model.specs.Walks.{WalkPart, Between, InContent, Unfit, Refused, Walk, is_refused, packet_start, field_ended, content_left, step, walk_over, is_between, is_accepted}
+use Rattle.trace_model.specs.Walks.{WalkPart, Between, InContent, Unfit, Refused, Walk, packet_start, field_ended, content_left, step, walk_over, is_between, is_accepted}
 use Rattle.packet_check.specs.Answers.{answer_in, answer_of, walk_behind}
-use Rattle.packet_check.specs.Messages.{HasField, HasHead}
+use Rattle.packet_check.specs.Messages.{HasField, HasFreeField, HasHead}
 use Rattle.packet_check.specs.Values as values
 use Rattle.packet_check.specs.declared.walk.Part.{Part}
 use Rattle.packet_check.specs.declared.walk.Walk as code
-use Rattle.packet_check.specs.declared.whole.Front.TheVariants as fronts
-use Rattle.packet_check.specs.declared.fault.PacketFault.TheVariants.{ReservedField}
 use Rattle.packet_check.proofs.AnswerLemmas.{IsBetween}
 use Rattle.packet_check.proofs.RiseLemmas.{begun_walk, walk_counts}
-use Rattle.packet_check.proofs.WalkLemmas.{walk_at, walked_on, content_walk, field_walk, head_walk, unfit_walk, refused_walk, ended_passed, ended_refused}
+use Rattle.packet_check.proofs.WalkLemmas.{walk_at, walked_on, content_walk, field_walk, head_walk, unfit_walk, refused_walk, ended_passed}
 
 long : (bytes : List ℕ) (at len : ℕ) → at + len ≤ length bytes → length (take len (drop at bytes)) ≡ len
 long bytes at len within = length-take-le len (drop at bytes) (omega (arith, length-drop at bytes, within))
@@ -125,28 +123,15 @@ over_one bytes at number len h field =
     ∙ ap (λ (w : Walk). walk_over w (take len (drop at bytes))) h.between.is
     ∙ sym (field_taken bytes at number len at h.between.start h.between.number Between refl field)
 
-pub walked_more : (bytes : List ℕ) (at number len : ℕ) → IsWalkedTo bytes at → HasField (drop at bytes) number len → is_refused number ≡ false
-    → IsWalkedTo bytes (at + len)
-walked_more bytes at number len h field free = record {
-  within = omega (arith, field.within, h.within, length-drop at bytes);
+pub walked_more : (bytes : List ℕ) (at len : ℕ) → IsWalkedTo bytes at → HasFreeField (drop at bytes) len → IsWalkedTo bytes (at + len)
+walked_more bytes at len h f = record {
+  within = omega (arith, f.field.within, h.within, length-drop at bytes);
   between = record {
     start = at;
-    number = number;
-    is = over_one bytes at number len h field ∙ ended_passed (at + len) at number Between free;
+    number = f.number;
+    is = over_one bytes at f.number len h f.field ∙ ended_passed (at + len) at f.number Between f.free;
   };
 }
-
--- the ways in which whole fields lead no further
-
-pub refused_is : (bytes : List ℕ) (at number len : ℕ) → IsWalkedTo bytes at → HasField (drop at bytes) number len → is_refused number ≡ true
-    → values.IsFront bytes (fronts.Refused number)
-refused_is bytes at number len h field refused =
-    let walked =
-    ap (walk_over packet_start) (sym (take-append-drop (at + len) bytes))
-    ∙ walked_on packet_start (take (at + len) bytes) (drop (at + len) bytes)
-    ∙ ap (λ (w : Walk). walk_over w (drop (at + len) bytes)) (over_one bytes at number len h field ∙ ended_refused (at + len) at number Between refused)
-    ∙ refused_walk (drop (at + len) bytes) (at + len) at number in
-    (ap (λ (w : Walk). w.part) walked, ap (λ (w : Walk). w.number) walked)
 
 -- a field's first byte says where it begins: so what comes behind a field's end says nothing of the fields before
 behind_is : (bytes : List ℕ) (at start number : ℕ) → 0 < length bytes → walk_over (walk_behind at) bytes ≡ walk_over (walk_at at start number Between) bytes
@@ -160,32 +145,29 @@ over_rest bytes at h =
     ∙ sym (walked_on packet_start (take at bytes) (drop at bytes))
     ∙ ap (walk_over packet_start) (take-append-drop at bytes)
 
-pub rest_is : (bytes : List ℕ) (at : ℕ) → IsWalkedTo bytes at → at < length bytes → values.IsFront bytes (fronts.Rest at)
-rest_is bytes at h before = (
-  before,
-  behind_is (drop at bytes) at h.between.start h.between.number (omega (arith, length-drop at bytes, before)) ∙ over_rest bytes at h,
-)
+rest_is : (bytes : List ℕ) (at : ℕ) → IsWalkedTo bytes at → at < length bytes
+    → walk_over (walk_behind at) (drop at bytes) ≡ walk_over packet_start bytes
+rest_is bytes at h before =
+    behind_is (drop at bytes) at h.between.start h.between.number (omega (arith, length-drop at bytes, before)) ∙ over_rest bytes at h
 
-pub whole_is : (bytes : List ℕ) (at : ℕ) → IsWalkedTo bytes at → length bytes ≤ at → values.IsFront bytes fronts.Whole
+whole_is : (bytes : List ℕ) (at : ℕ) → IsWalkedTo bytes at → at ≡ length bytes → (walk_over packet_start bytes).part ≡ Between
 whole_is bytes at h end =
-    ap (λ (xs : List ℕ). (walk_over packet_start xs).part) (sym (take_all at bytes end)) ∙ ap (λ (w : Walk). w.part) h.between.is
+    ap (λ (xs : List ℕ). (walk_over packet_start xs).part) (sym (take_all at bytes (omega (arith, end)))) ∙ ap (λ (w : Walk). w.part) h.between.is
+
+pub front_is : (bytes : List ℕ) (at : ℕ) → IsWalkedTo bytes at → values.IsFront bytes at
+front_is bytes at h = record { within = h.within; whole = whole_is bytes at h; rest = rest_is bytes at h }
 
 -- what is answered then
 
 part_answer : (walk : Walk) (part : WalkPart) → walk.part ≡ part → answer_of walk ≡ answer_in part walk.start walk.number
 part_answer walk part is = ap (λ (p : WalkPart). answer_in p walk.start walk.number) is
 
-pub whole_answer : (bytes : List ℕ) → values.IsFront bytes fronts.Whole → Ok tt ≡ answer_of (walk_over packet_start bytes)
-whole_answer bytes h = sym (part_answer (walk_over packet_start bytes) Between h)
+pub whole_answer : (bytes : List ℕ) (at : ℕ) → values.IsFront bytes at → at ≡ length bytes → Ok tt ≡ answer_of (walk_over packet_start bytes)
+whole_answer bytes at h end = sym (part_answer (walk_over packet_start bytes) Between (h.whole end))
 
-pub refused_answer : (bytes : List ℕ) (number : ℕ) → values.IsFront bytes (fronts.Refused number)
-    → Err (ReservedField number) ≡ answer_of (walk_over packet_start bytes)
-refused_answer bytes number h =
-    sym (part_answer (walk_over packet_start bytes) Refused h.0 ∙ ap (λ (n : ℕ). Err (ReservedField n)) h.1)
-
-pub rest_answer : (bytes : List ℕ) (at : ℕ) (rest : code.Walk) → values.IsFront bytes (fronts.Rest at)
+pub rest_answer : (bytes : List ℕ) (at : ℕ) (rest : code.Walk) → values.IsFront bytes at → at < length bytes
     → values.walk_of rest ≡ walk_over (walk_behind at) (drop at bytes) → answer_of (values.walk_of rest) ≡ answer_of (walk_over packet_start bytes)
-rest_answer bytes at rest h is = ap answer_of (is ∙ h.1)
+rest_answer bytes at rest h before is = ap answer_of (is ∙ h.rest before)
 
 -- the last field begins in the packet
 pub rest_few : (bytes : List ℕ) (at : ℕ) (rest : code.Walk) → length bytes ≤ MAX_INPUT → at < length bytes
@@ -199,18 +181,15 @@ pub accepted_is : (bytes : List ℕ) → is_accepted bytes ≡ is_between (walk_
 unfolding is_accepted
 accepted_is bytes = refl
 
-pub whole_accepted : (bytes : List ℕ) → values.IsFront bytes fronts.Whole → true ≡ is_accepted bytes
-whole_accepted bytes h = sym (accepted_is bytes ∙ ap is_between h)
+pub whole_accepted : (bytes : List ℕ) (at : ℕ) → values.IsFront bytes at → at ≡ length bytes → true ≡ is_accepted bytes
+whole_accepted bytes at h end = sym (accepted_is bytes ∙ ap is_between (h.whole end))
 
-pub refused_accepted : (bytes : List ℕ) (number : ℕ) → values.IsFront bytes (fronts.Refused number) → false ≡ is_accepted bytes
-refused_accepted bytes number h = sym (accepted_is bytes ∙ ap is_between h.0)
-
-pub rest_accepted : (bytes : List ℕ) (at : ℕ) (rest : code.Walk) → values.IsFront bytes (fronts.Rest at)
+pub rest_accepted : (bytes : List ℕ) (at : ℕ) (rest : code.Walk) → values.IsFront bytes at → at < length bytes
     → values.walk_of rest ≡ walk_over (walk_behind at) (drop at bytes) → is_between (values.part_of rest.part) ≡ is_accepted bytes
-rest_accepted bytes at rest h is = ap (λ (w : Walk). is_between w.part) (is ∙ h.1) ∙ sym (accepted_is bytes)
+rest_accepted bytes at rest h before is = ap (λ (w : Walk). is_between w.part) (is ∙ h.rest before) ∙ sym (accepted_is bytes)
 
 pub ruleset piece_steps = (taken_none, taken_more, taken_all)
 
-pub ruleset check_steps = (walked_none, walked_more, refused_is, rest_is, whole_is)
+pub ruleset check_steps = (walked_none, walked_more, front_is)
 
-pub ruleset front_steps = (whole_answer, refused_answer, rest_answer, rest_few, whole_accepted, refused_accepted, rest_accepted)
+pub ruleset front_steps = (whole_answer, rest_answer, rest_few, whole_accepted, rest_accepted)

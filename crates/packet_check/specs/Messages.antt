@@ -12,6 +12,12 @@ pub record HasField (bytes : List ℕ) (number len : ℕ) : Type 0 where
   pub spells : Spells (record { number = number; value = value }) (take len bytes)
   pub within : len ≤ length bytes
 
+-- a field that writers may write stands in front of the bytes, and has so many of them
+pub record HasFreeField (bytes : List ℕ) (len : ℕ) : Type 0 where
+  pub number : ℕ
+  pub field : HasField bytes number len
+  pub free : is_refused number ≡ false
+
 -- a content of this field number and this length begins in front of the bytes, with so many of them for its tag and its length
 pub record HasHead (bytes : List ℕ) (number width size : ℕ) : Type 0 where
   pub tag : List ℕ

@@ -7,8 +7,6 @@ use Rattle.packet_check.specs.declared.walk.Part.TheVariants as parts
 use Rattle.packet_check.specs.declared.walk.VarintOf.{VarintOf}
 use Rattle.packet_check.specs.declared.walk.VarintOf.TheVariants as varints
 use Rattle.packet_check.specs.declared.walk.Walk.{Walk}
-use Rattle.packet_check.specs.declared.whole.Front.{Front}
-use Rattle.packet_check.specs.declared.whole.Front.TheVariants as fronts
 use Rattle.trace_model.specs.Fields.{FieldValue, wire_of, IsValue}
 use Rattle.trace_model.specs.Walks as model
 
@@ -56,11 +54,9 @@ pub record IsCheck (walk : Walk) : Type 0 where
   pub begun : walk.start ≤ walk.at
   pub few : walk.at ≤ MAX_INPUT
 
--- So far whole fields lead in the packet: to its end; to a field that is refused; to a place before its end, from which on the
--- walk over what is left is that over all of it.
-abbrev pub IsFront : List ℕ → Front → Type 0
-IsFront bytes fronts.Whole = (model.walk_over model.packet_start bytes).part ≡ model.Between
-IsFront bytes (fronts.Refused number) =
-    ((model.walk_over model.packet_start bytes).part ≡ model.Refused) × ((model.walk_over model.packet_start bytes).number ≡ number)
-IsFront bytes (fronts.Rest at) =
-    (at < length bytes) × (model.walk_over (walk_behind at) (drop at bytes) ≡ model.walk_over model.packet_start bytes)
+-- So far whole fields lead in the packet that writers may write: where that is its end, the walk over it ends between fields;
+-- and before its end, the walk from there on over what is left is that over all of it.
+pub record IsFront (bytes : List ℕ) (at : ℕ) : Type 0 where
+  pub within : at ≤ length bytes
+  pub whole : at ≡ length bytes → (model.walk_over model.packet_start bytes).part ≡ model.Between
+  pub rest : at < length bytes → model.walk_over (walk_behind at) (drop at bytes) ≡ model.walk_over model.packet_start bytes

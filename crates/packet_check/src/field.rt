@@ -1,9 +1,11 @@
 //! A field that stands whole in front of some bytes. Each reader here may give up where it likes: a
 //! field that it doesn't find is walked over byte by byte.
 ghost use Rattle.std.specs.Prelude.{◌+◌, ◌^◌, ◌<◌, ◌≤◌, length, take, drop, IfSome};
-ghost use Rattle.packet_check.specs.Messages.{HasField, HasHead};
+ghost use Rattle.packet_check.specs.Messages.{HasField, HasFreeField, HasHead};
 ghost use Rattle.packet_check.specs.Values.{HasValue};
 ghost use Rattle.wire_varint.specs.Reading.{IsVarint, IsWhole};
+
+use crate::walk::is_refused;
 
 /// A field's number, and how many bytes it has with its tag.
 #[derive(Clone, Copy)]
@@ -60,7 +62,8 @@ fn short_size(bytes: &[u8]) -> Option<(u64, usize)>
     }
 }
 
-/// How many bytes a number in front has, if it has four at most.
+/// How many bytes a number in front has, if it has nine at most. Each case is written out: they are no calls,
+/// and no loop.
 #[inline(always)]
 fn number_len(bytes: &[u8]) -> Option<usize>
     ensures whole { IfSome result (λ len. IsWhole (take len bytes.now)) }
@@ -77,36 +80,47 @@ fn number_len(bytes: &[u8]) -> Option<usize>
 }
 
 /// How many bytes a number in front has, if it has from five to nine.
-#[inline(never)]
+#[inline(always)]
 fn long_len(bytes: &[u8]) -> Option<usize>
     ensures whole { IfSome result (λ len. IsWhole (take len bytes.now)) }
     ensures few { IfSome result (λ len. len ≤ 9) }
     ensures within { IfSome result (λ len. len ≤ length bytes.now) }
 {
-    let mut len = 0;
-    while len < bytes.len() && len < 9 {
-        if bytes[len] < 128 {
-            return Some(len + 1);
-        }
-        len += 1;
+    match bytes {
+        [a, b, c, d, e, ..] if *a >= 128 && *b >= 128 && *c >= 128 && *d >= 128 && *e < 128 => Some(
+            5,
+        ),
+        [a, b, c, d, e, f, ..]
+            if *a >= 128 && *b >= 128 && *c >= 128 && *d >= 128 && *e >= 128 && *f < 128 => Some(6),
+        [a, b, c, d, e, f, g, ..]
+            if *a >= 128
+                && *b >= 128
+                && *c >= 128
+                && *d >= 128
+                && *e >= 128
+                && *f >= 128
+                && *g < 128 => Some(7),
+        [a, b, c, d, e, f, g, h, ..]
+            if *a >= 128
+                && *b >= 128
+                && *c >= 128
+                && *d >= 128
+                && *e >= 128
+                && *f >= 128
+                && *g >= 128
+                && *h < 128 => Some(8),
+        [a, b, c, d, e, f, g, h, i, ..]
+            if *a >= 128
+                && *b >= 128
+                && *c >= 128
+                && *d >= 128
+                && *e >= 128
+                && *f >= 128
+                && *g >= 128
+                && *h >= 128
+                && *i < 128 => Some(9),
+        _ => None,
     }
-    None
-}
-
-/// How many bytes a value of this wire type in front has.
-#[tactic(auto, using(crate::proofs::FieldLemmas::value_steps))]
-#[inline(always)]
-fn value_len(wire: u64, bytes: &[u8]) -> Option<usize>
-    ensures value { IfSome result (λ len. HasValue wire bytes.now len) }
-    ensures within { IfSome result (λ len. len ≤ length bytes.now) }
-{
-    if wire == 0 {
-        return number_len(bytes);
-    }
-    if wire == 2 {
-        return content_len(bytes);
-    }
-    fixed_len(wire, bytes)
 }
 
 /// How many bytes a content in front has, with its length.
@@ -116,11 +130,54 @@ fn content_len(bytes: &[u8]) -> Option<usize>
     ensures value { IfSome result (λ len. HasValue 2 bytes.now len) }
     ensures within { IfSome result (λ len. len ≤ length bytes.now) }
 {
+    match bytes {
+        [only, ..] if *only < 128 && usize::from(*only) < bytes.len() => {
+            Some(1 + usize::from(*only))
+        }
+        _ => long_content_len(bytes),
+    }
+}
+
+/// The same of a content of any length.
+#[tactic(auto, using(crate::proofs::FieldLemmas::value_steps))]
+#[inline(always)]
+fn long_content_len(bytes: &[u8]) -> Option<usize>
+    ensures value { IfSome result (λ len. HasValue 2 bytes.now len) }
+    ensures within { IfSome result (λ len. len ≤ length bytes.now) }
+{
     let (size, width) = short_size(bytes)?;
     if size > (bytes.len() - width) as u64 {
         return None;
     }
     Some(width + size as usize)
+}
+
+/// How many bytes a value of this wire type in front has, where that is a number or a content: most are.
+#[tactic(auto, using(crate::proofs::FieldLemmas::value_steps))]
+#[inline(always)]
+fn common_len(wire: u64, bytes: &[u8]) -> Option<usize>
+    ensures value { IfSome result (λ len. HasValue wire bytes.now len) }
+    ensures within { IfSome result (λ len. len ≤ length bytes.now) }
+{
+    if wire == 2 {
+        return content_len(bytes);
+    }
+    if wire == 0 {
+        return number_len(bytes);
+    }
+    None
+}
+
+/// How many bytes a value of this wire type in front has.
+#[inline(always)]
+fn value_len(wire: u64, bytes: &[u8]) -> Option<usize>
+    ensures value { IfSome result (λ len. HasValue wire bytes.now len) }
+    ensures within { IfSome result (λ len. len ≤ length bytes.now) }
+{
+    match common_len(wire, bytes) {
+        Some(len) => Some(len),
+        None => fixed_len(wire, bytes),
+    }
 }
 
 /// How many bytes a value of fixed length in front has.
@@ -156,6 +213,57 @@ fn field_in_front(bytes: &[u8]) -> Option<Field>
         number: number as u32,
         len: width + len,
     })
+}
+
+/// How many bytes the field with this tag has, if it is a number or a content that writers may write. The
+/// others are left to the walk.
+#[inline(always)]
+fn free_behind(bytes: &[u8], tag: u64, width: usize) -> Option<usize>
+    requires varint { IsVarint (take width bytes.now) tag }
+    requires small { tag < 2 ^ 14 }
+    requires some { 1 ≤ width }
+    requires within { width ≤ length bytes.now }
+    ensures field { IfSome result (λ len. HasFreeField bytes.now len) }
+    ensures some { IfSome result (λ len. 1 ≤ len) }
+    ensures within { IfSome result (λ len. len ≤ length bytes.now) }
+{
+    let number = tag / 8;
+    if number == 0 {
+        return None;
+    }
+    if is_refused(number as u32) {
+        return None;
+    }
+    let len = common_len(tag % 8, &bytes[width..])?;
+    Some(width + len)
+}
+
+/// How many bytes the field in front has, if it is a number or a content that writers may write. A tag of
+/// one byte and one of two are told apart before all else, so that each has code of its own behind it.
+#[inline(always)]
+fn free_in_front(bytes: &[u8]) -> Option<usize>
+    ensures field { IfSome result (λ len. HasFreeField bytes.now len) }
+    ensures some { IfSome result (λ len. 1 ≤ len) }
+    ensures within { IfSome result (λ len. len ≤ length bytes.now) }
+{
+    match bytes {
+        [only, ..] if *only < 128 => free_behind(bytes, u64::from(*only), 1),
+        [first, last, ..] if *first >= 128 && *last < 128 => {
+            free_behind(bytes, u64::from(*first % 128) + 128 * u64::from(*last), 2)
+        }
+        _ => None,
+    }
+}
+
+/// The same of the field at a place.
+#[inline(always)]
+pub(crate) fn free_at(bytes: &[u8], at: usize) -> Option<usize>
+    requires { at ≤ length bytes.now }
+    ensures field { IfSome result (λ len. HasFreeField (drop at bytes.now) len) }
+    ensures some { IfSome result (λ len. 1 ≤ len) }
+    ensures within { IfSome result (λ len. at + len ≤ length bytes.now) }
+{
+    free_in_front(&bytes[at..])
 }
 
 /// The field at a place.

@@ -2,7 +2,7 @@
 //! A layer above may rely on this: `check_packet` accepts exactly those bytes that are fields of
 //! protobuf, one behind another, none of which is the service's own, and of other bytes it answers
 //! the first fault. `PacketCheck` answers the same of a packet that comes in pieces, wherever it is
-//! cut. No call takes memory, and none reads a byte twice.
+//! cut. No call takes memory, and none goes back behind a field that it has passed.
 #![tactic(auto)]
 
 mod check;

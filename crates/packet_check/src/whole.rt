@@ -7,47 +7,29 @@ ghost use Rattle.trace_model.specs.Walks.{packet_start, walk_over, is_accepted};
 
 use crate::check::{passes, told_by, walk_over};
 use crate::fault::PacketFault;
-use crate::field::field_at;
-use crate::walk::{Walk, is_refused, walk_behind};
+use crate::field::free_at;
+use crate::walk::{Walk, walk_behind};
 use trace_base::limits::MAX_INPUT;
 
-/// How far whole fields lead that writers may write.
-#[derive(Clone, Copy)]
-enum Front {
-    /// To the packet's end.
-    Whole,
-    /// To a field that they may not write.
-    Refused { number: u32 },
-    /// To a place from which on the packet has to be walked over byte by byte.
-    Rest { at: usize },
-}
-
-/// How far whole fields lead in the packet.
+/// How far fields lead in the packet that writers may write: to its end, or to where it has to be walked over
+/// byte by byte. This way only accepts; what is refused is found by the walk.
 #[tactic(auto, using(crate::proofs::CheckLemmas::check_steps))]
 #[inline(always)]
-fn whole_front(bytes: &[u8]) -> Front
+fn whole_front(bytes: &[u8]) -> usize
     requires { length bytes.now ≤ 2 ^ 62 }
     ensures { IsFront bytes.now result }
 {
     let mut at = 0;
     while at < bytes.len() {
-        match field_at(bytes, at) {
-            None => return Front::Rest { at },
-            Some(field) => {
-                if is_refused(field.number) {
-                    return Front::Refused {
-                        number: field.number,
-                    };
-                }
-                at += field.len;
-            }
-        }
+        let Some(len) = free_at(bytes, at) else {
+            return at;
+        };
+        at += len;
     }
-    Front::Whole
+    at
 }
 
 /// The walk over what is left of a packet, behind whole fields that writers may write.
-#[inline(never)]
 fn walk_rest(bytes: &[u8], at: usize) -> Walk
     requires within { at < length bytes.now }
     requires most { length bytes.now ≤ 2 ^ 62 }
@@ -63,11 +45,11 @@ fn walk_whole(bytes: &[u8]) -> Result<(), PacketFault>
     requires { length bytes.now ≤ MAX_INPUT }
     ensures { result ≡ answer_of (walk_over packet_start bytes.now) }
 {
-    match whole_front(bytes) {
-        Front::Whole => Ok(()),
-        Front::Refused { number } => Err(PacketFault::ReservedField { number }),
-        Front::Rest { at } => told_by(walk_rest(bytes, at)),
+    let at = whole_front(bytes);
+    if at == bytes.len() {
+        return Ok(());
     }
+    told_by(walk_rest(bytes, at))
 }
 
 /// Whether the packet is fields that writers may write, and where it isn't, its first fault.
@@ -84,15 +66,28 @@ pub fn check_packet(bytes: &[u8]) -> Result<(), PacketFault>
     walk_whole(bytes)
 }
 
+/// Whether what is left of a packet passes, behind whole fields that do. It stays a call, so that what it
+/// needs is saved only where it is made.
+#[tactic(auto, using(crate::proofs::CheckLemmas::front_steps))]
+#[inline(never)]
+fn rest_passes(bytes: &[u8], at: usize) -> bool
+    requires within { at < length bytes.now }
+    requires most { length bytes.now ≤ 2 ^ 62 }
+    requires front { IsFront bytes.now at }
+    ensures { result ≡ is_accepted bytes.now }
+{
+    passes(walk_rest(bytes, at))
+}
+
 /// Whether the packet is fields that writers may write, of whatever length it is.
 #[tactic(auto, using(crate::proofs::CheckLemmas::front_steps))]
 pub fn accepts_packet(bytes: &[u8]) -> bool
     requires { length bytes.now ≤ 2 ^ 62 }
     ensures { result ≡ is_accepted bytes.now }
 {
-    match whole_front(bytes) {
-        Front::Whole => true,
-        Front::Refused { .. } => false,
-        Front::Rest { at } => passes(walk_rest(bytes, at)),
+    let at = whole_front(bytes);
+    if at == bytes.len() {
+        return true;
     }
+    rest_passes(bytes, at)
 }
