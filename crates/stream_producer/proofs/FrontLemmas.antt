@@ -16,7 +16,7 @@ use Rattle.stream_frames.specs.Reads.{IsReading}
 use Rattle.stream_frames.specs.Values.{limits_of, feeding_of}
 use Rattle.stream_producer.specs.declared.fault.StreamFault.TheVariants.{WriteFault, BadFrame}
 use Rattle.stream_producer.specs.declared.producer.StreamCore.{StreamCore}
-use Rattle.stream_producer.specs.Feeding.{HasRoom, IsReady, HasWholeFrame, Feeds, Stops}
+use Rattle.stream_producer.specs.Feeding.{HasRoom, IsReady, HasAtMostOneFrame, Feeds, Stops}
 use Rattle.stream_producer.specs.Standing.{FitsSetup, Plays, due_of}
 use Rattle.stream_producer.proofs.PlayLemmas.{plays_none}
 
@@ -53,7 +53,7 @@ module _ {T W S : Type 0} (means : Meaning T W S) (old new : StreamCore T S) (li
     counted = counted;
   }
 
-module _ {T W S : Type 0} (means : Meaning T W S) (old : StreamCore T S) (so : HasWholeFrame means old) (before : Intake) where
+module _ {T W S : Type 0} (means : Meaning T W S) (old : StreamCore T S) (so : HasAtMostOneFrame means old) (before : Intake) where
   abbrev limits : Limits
   limits = limits_of old.reader
 

@@ -15,7 +15,7 @@ use Rattle.stream_producer.specs.declared.fault.StreamFault.{StreamFault}
 use Rattle.stream_producer.specs.declared.fault.StreamFault.TheVariants.{WriteFault, BadFrame, NoEnd}
 use Rattle.stream_producer.specs.declared.player.Player.{Player}
 use Rattle.stream_producer.specs.declared.producer.StreamCore.{StreamCore}
-use Rattle.stream_producer.specs.Feeding.{HasRoom, IsReady, IsFeeding, HasWholeFrame, Feeds, FeedsSome, Stops}
+use Rattle.stream_producer.specs.Feeding.{HasRoom, IsReady, IsFeeding, HasAtMostOneFrame, Feeds, FeedsSome, Stops}
 use Rattle.stream_producer.specs.History.{played}
 use Rattle.stream_producer.specs.Standing.{Stands, FitsSetup, Plays, due_of}
 use Rattle.stream_producer.proofs.PlayLemmas.{plays_none, played_append}
@@ -93,8 +93,8 @@ module _ {T W S : Type 0} (means : Meaning T W S) (piece : List ℕ) (old mid : 
   counted_on : (feeding_of mid.reader).at + length (feeding_of mid.reader).have < 2 ^ 64
   counted_on = let more = counted_more in let within = takes.within in omega (arith, more, within, fits)
 
-  pub whole_there : HasWholeFrame means mid
-  whole_there = record {
+  pub at_most_one_there : HasAtMostOneFrame means mid
+  at_most_one_there = record {
     ready = ready;
     opened = takes.closed ∙ shut;
     whole = λ frame size is.
@@ -144,7 +144,7 @@ module _ {T W S : Type 0} (means : Meaning T W S) (piece : List ℕ) (old mid : 
     };
     counted = place_of (feeding_of mid.reader).at (feeding_of mid.reader).have
         (front_of (limits_of mid.reader) (feeding_of mid.reader).have)
-        (feeding_of new.reader) whole_there.whole feeds.ends ∙ counted_more;
+        (feeding_of new.reader) at_most_one_there.whole feeds.ends ∙ counted_more;
   }
 
   -- a fault in the frame is one in the piece

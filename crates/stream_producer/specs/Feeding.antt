@@ -7,6 +7,7 @@ use Rattle.trace_model.specs.Delivery.{trace_of}
 use Rattle.trace_model.specs.History.{records_after}
 use Rattle.chunk_plain.specs.Histories.{history_of}
 use Rattle.chunk_plain.specs.Meaning.{Meaning}
+use Rattle.chunk_plain.specs.Setup.{Setup}
 use Rattle.service_core.specs.Agreement.{first_of}
 use Rattle.config_text.specs.Configs.{ConfigOf}
 use Rattle.stream_frames.specs.Frames.{Frame}
@@ -39,8 +40,8 @@ pub record IsFeeding {T W S : Type 0} (means : Meaning T W S) (core : StreamCore
   pub ready : IsReady means core
   pub reading : IsReading (limits_of core.reader) (feeding_of core.reader)
 
--- the stream isn't closed, and the reader has bytes of a frame, at most up to its end
-pub record HasWholeFrame {T W S : Type 0} (means : Meaning T W S) (core : StreamCore T S) : Type 0 where
+-- the stream isn't closed, and the reader has no byte behind its first frame: where one stands there whole, it is all that there is
+pub record HasAtMostOneFrame {T W S : Type 0} (means : Meaning T W S) (core : StreamCore T S) : Type 0 where
   pub ready : IsReady means core
   pub opened : (feeding_of core.reader).closed ≡ false
   pub whole : (frame : Frame) (size : ℕ) → front_of (limits_of core.reader) (feeding_of core.reader).have ≡ Whole frame size
@@ -102,9 +103,22 @@ pub record HasTaken {T W S : Type 0} (means : Meaning T W S) (config : ConfigOf)
       ≡ raised 0 (refused_in (means.setup core.player.table) (config_limits config) (config_buffers config (means.setup core.player.table))
       (frames_of (config_limits config) stream))
 
--- the sink has taken the records of the history that the stream's frames give
+-- the bytes of the records of the history that the stream's frames give, which are those before a fault
+abbrev pub trace_so_far : ConfigOf → Setup → List ℕ → List ℕ
+trace_so_far config setup stream =
+    trace_of (records_after (config_buffers config setup)
+    (played setup (config_limits config) (config_buffers config setup) (frames_of (config_limits config) stream)))
+
+-- the sink has taken them
 abbrev pub IsTraceOf : {T W S : Type 0} → Meaning T W S → ConfigOf → List ℕ → StreamCore T S → (start taken : Intake) → Type 0
 IsTraceOf means config stream core start taken =
-    taken ≡ after_told start (trace_of (records_after (config_buffers config (means.setup core.player.table))
-    (played (means.setup core.player.table) (config_limits config) (config_buffers config (means.setup core.player.table))
-    (frames_of (config_limits config) stream))))
+    taken ≡ after_told start (trace_so_far config (means.setup core.player.table) stream)
+
+-- A fault of the whole stream: where its first frame begins that is none, and the sink took the records of those before it; or a write
+-- that failed, and the sink took a front part of the records of its frames.
+abbrev pub StopsStream : {T W S : Type 0} → Meaning T W S → ConfigOf → List ℕ → StreamCore T S → (start taken : Intake) → StreamFault → Type 0
+StopsStream means config stream core start taken WriteFault =
+    TakesPart start taken (trace_so_far config (means.setup core.player.table) stream)
+StopsStream means config stream core start taken (BadFrame offset) =
+    ((fed (config_limits config) beginning stream).ends ≡ Err offset) × IsTraceOf means config stream core start taken
+StopsStream means config stream core start taken (NoEnd offset) = ⊥

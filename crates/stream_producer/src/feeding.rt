@@ -13,11 +13,11 @@ use chunk_plain::Words;
 use stream_frames::{Front, front_of};
 
 impl<W: Words> StreamCore<W, W::Service> {
-    ghost use Rattle.stream_producer.specs.Feeding.{IsFeeding, HasWholeFrame, Feeds, FeedsSome, Stops, HasTaken, IsTraceOf};
+    ghost use Rattle.stream_producer.specs.Feeding.{IsFeeding, HasAtMostOneFrame, Feeds, FeedsSome, Stops, HasTaken, IsTraceOf, StopsStream};
 
     /// Plays the frame that stands whole in the reader, if there is one.
     fn play_front<O: Sink>(&mut self, out: &mut O) -> Result<(), StreamFault>
-        requires feeding { HasWholeFrame W.means self.old }
+        requires feeding { HasAtMostOneFrame W.means self.old }
         requires may { O.may_write out.old }
         ensures feeds { OnOk result (Feeds W.means
             (by_front (feeding_of self.old.reader).at (feeding_of self.old.reader).have
@@ -94,6 +94,9 @@ impl<W: Words> StreamCore<W, W::Service> {
         ensures trace { (config : ConfigOf) (stream : List ℕ) (start : Intake) → HasTaken W.means config stream self.old
             → IsTraceOf W.means config stream self.old start (O.taken out.old)
             → OnOk result (IsTraceOf W.means config (stream ++ piece.now) self.new start (O.taken out.new)) }
+        ensures stops_stream { (config : ConfigOf) (stream : List ℕ) (start : Intake) → HasTaken W.means config stream self.old
+            → IsTraceOf W.means config stream self.old start (O.taken out.old)
+            → IfErr result (StopsStream W.means config (stream ++ piece.now) self.old start (O.taken out.new)) }
         ensures counted { OnOk result ((feeding_of self.new.reader).at + length (feeding_of self.new.reader).have
             ≡ (feeding_of self.old.reader).at + length (feeding_of self.old.reader).have + length piece.now) }
         ensures count { CountsWrites (O.faults out.old) (O.faults out.new) result }

@@ -6,7 +6,7 @@ use Rattle.stream_frames.specs.Values.{limits_of, feeding_of}
 use Rattle.stream_producer.specs.Feeding.{FeedsSome, Stops}
 use Rattle.stream_producer.proofs.FeedLemmas.{fed_first, fed_done, fed_more, fed_stops, rest_fits}
 use Rattle.stream_producer.proofs.ResultLemmas.{if_err_is, counts_err}
-use Rattle.stream_producer.proofs.StreamLemmas.{taken_more, trace_more}
+use Rattle.stream_producer.proofs.StreamLemmas.{taken_more, trace_more, stops_whole}
 use Rattle.stream_producer.proofs.feeding.StreamCore+W+W+Service.feed.Goals as goal
 
 pub loop-at-init : goal.loop-at-init
@@ -60,6 +60,23 @@ returns-in_err-at-clause-stops g c =
     (subst (λ (rest : List ℕ). Stops means (fed (limits_of now.reader) (feeding_of now.reader) rest) now c.feed_some.new.self taken after
     found)
     (take_rest piece c.loop-at.at) c.in_err-at.ensures.stops))
+
+pub returns-in_err-at-clause-stops_stream : goal.returns-in_err-at-clause-stops_stream
+returns-in_err-at-clause-stops_stream g c config stream start was trace =
+    let means = g.W.Words.means in
+    let piece = c.args.piece.now in
+    let now = c.loop-at.self in
+    let before = g.O.Sink.taken c.args.out.now in
+    let taken = g.O.Sink.taken c.loop-at.out in
+    let after = g.O.Sink.taken c.feed_some.new.out in
+    let found = c.in_err-at.field-0.0 in
+    let result_is : c.from_residual.result ≡ Err found = search rules in
+    if_err_is c.from_residual.result found _ result_is
+    (stops_whole means config stream piece c.args.self.now c.requires.feeding was c.feed_some.new.self before after start found trace
+    (fed_stops means piece c.args.self.now before c.loop-at.at now c.feed_some.new.self taken after found c.loop-at.invariant.fed
+    (subst (λ (rest : List ℕ). Stops means (fed (limits_of now.reader) (feeding_of now.reader) rest) now c.feed_some.new.self taken after
+    found)
+    (take_rest piece c.loop-at.at) c.in_err-at.ensures.stops)))
 
 pub returns-in_err-at-clause-goes_on_behind : goal.returns-in_err-at-clause-goes_on_behind
 returns-in_err-at-clause-goes_on_behind g c =

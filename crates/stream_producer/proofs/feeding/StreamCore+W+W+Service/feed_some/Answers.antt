@@ -8,7 +8,7 @@ use Rattle.stream_producer.specs.declared.fault.StreamFault.TheVariants.{WriteFa
 use Rattle.stream_producer.specs.Standing.{Plays, due_of}
 use Rattle.stream_producer.proofs.PlaceLemmas.{no_bytes, place_fits, place_fed, place_fails}
 use Rattle.stream_producer.proofs.ResultLemmas.{if_err_is}
-use Rattle.stream_producer.proofs.TakeLemmas.{whole_there, some_fed, some_stops, closed_stops}
+use Rattle.stream_producer.proofs.TakeLemmas.{at_most_one_there, some_fed, some_stops, closed_stops}
 use Rattle.stream_producer.proofs.feeding.StreamCore+W+W+Service.feed_some.Goals as goal
 
 pub returns-then-is_closed-clause-stops : goal.returns-then-is_closed-clause-stops
@@ -18,7 +18,7 @@ returns-then-is_closed-clause-stops g c =
 
 pub play_front-requires-clause-feeding : goal.play_front-requires-clause-feeding
 play_front-requires-clause-feeding g c =
-    whole_there g.W.Words.means c.args.piece.now c.args.self.now _ c.requires.feeding c.requires.length
+    at_most_one_there g.W.Words.means c.args.piece.now c.args.self.now _ c.requires.feeding c.requires.length
     (sym c.is_closed.ensures ∙ c.if-is_closed.false) c.take-count.result c.take-count.ensures.takes c.take-count.ensures.limits refl refl
 
 pub returns-in_err-play_front-clause-stops : goal.returns-in_err-play_front-clause-stops
