@@ -12,7 +12,7 @@ index_view index = record { capacity = index.capacity; places = map_of index.slo
 
 -- the fields of an index hold together
 pub record IsIndex (index : Inside) : Type 0 where
-  pub room : HasRoom index.room index.capacity index.slots.items index.wide.items (vec_capacity index.wide)
+  pub room : HasRoom index.room index.capacity index.slots.items index.others.items (vec_capacity index.slots) (vec_capacity index.others)
   pub used : index.used ≡ length (entries_of index.slots.items)
   -- no entry is hidden by an earlier one with its key
   pub count : len (map_of index.slots.items) ≡ length (entries_of index.slots.items)

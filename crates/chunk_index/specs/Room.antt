@@ -3,11 +3,12 @@ use Rattle.std.specs.Prelude.{◌≡◌, ℕ, ◌+◌, ◌*◌, ◌<◌, ◌≤�
 use Rattle.chunk_index.specs.declared.slot.Entry.{Entry}
 use Rattle.chunk_index.specs.Table.{IsTable}
 
--- The slots are a table with room for so many entries. Where that is less than the capacity, other slots take none of their memory
--- yet, which has room for as many entries as the capacity.
-pub record HasRoom (room capacity : ℕ) (slots wide : List (Option Entry)) (memory : ℕ) : Type 0 where
+-- The slots are a table with room for so many entries. Where that is less than the capacity, there are no others, and the memory of
+-- each of the two is enough for as many entries as the capacity.
+pub record HasRoom (room capacity : ℕ) (slots others : List (Option Entry)) (memory other_memory : ℕ) : Type 0 where
   pub size : length slots ≡ 3 * room + 1
   pub table : IsTable room slots
   pub within : room ≤ capacity
-  pub untouched : room < capacity → wide ≡ []
-  pub wide_fits : room < capacity → 3 * capacity + 1 ≤ memory
+  pub free : room < capacity → others ≡ []
+  pub fits : room < capacity → 3 * capacity + 1 ≤ memory
+  pub others_fit : room < capacity → 3 * capacity + 1 ≤ other_memory

@@ -20,9 +20,9 @@ pub struct Index {
     used: u32,
     /// Three slots for each entry that they have room for, and one more.
     slots: Vec<Option<Entry>>,
-    /// Memory for slots with room for as many entries as the capacity, where those have less. It isn't
-    /// touched before.
-    wide: Vec<Option<Entry>>,
+    /// Memory for more slots, to which the entries move once these are full. Both have enough for as many
+    /// entries as the capacity, of which no more is touched than was needed once.
+    others: Vec<Option<Entry>>,
 }
 
 impl Model for Index {
@@ -45,14 +45,15 @@ impl Index {
         ensures { IfOk result (λ index. index ≡ empty_index capacity) }
     {
         let room = capacity.min(FIRST_ROOM);
-        let slots = vec![in alloc; None; 3 * room as usize + 1]?;
-        let wide = Vec::with_capacity(alloc, 3 * capacity as usize + 1)?;
+        let mut slots = Vec::with_capacity(alloc, 3 * capacity as usize + 1)?;
+        slots.resize(3 * room as usize + 1, None)?;
+        let others = Vec::with_capacity(alloc, 3 * capacity as usize + 1)?;
         Ok(Index {
             capacity,
             room,
             used: 0,
             slots,
-            wide,
+            others,
         })
     }
 
@@ -89,7 +90,7 @@ impl Index {
     {
         self.room = with_room(
             &mut self.slots,
-            &mut self.wide,
+            &mut self.others,
             self.room,
             self.used,
             self.capacity,
@@ -121,7 +122,7 @@ impl Index {
     {
         self.room = free_all(
             &mut self.slots,
-            &mut self.wide,
+            &mut self.others,
             self.room,
             other.used,
             self.capacity,

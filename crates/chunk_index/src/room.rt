@@ -11,19 +11,29 @@ use crate::slot::{Entry, find_slot, key_number};
 /// How many entries the slots have room for at first: an index that stays small touches little memory.
 pub const FIRST_ROOM: u32 = 32_768;
 
+/// For how many entries slots are made where these have come: for three times as many and some more, so
+/// that the entries seldom move, and little more memory is touched than they need.
+fn room_behind(used: u32, capacity: u32) -> u32
+    requires { used < capacity }
+    ensures more { used < result }
+    ensures within { result ≤ capacity }
+{
+    capacity.min((used + 1).saturating_mul(3))
+}
+
 /// Sees to it that there is room for one more entry, and answers for how many there is.
 #[inline]
 pub fn with_room(
     slots: &mut Vec<Option<Entry>>,
-    wide: &mut Vec<Option<Entry>>,
+    others: &mut Vec<Option<Entry>>,
     room: u32,
     used: u32,
     capacity: u32,
 ) -> u32
-    requires room { HasRoom room capacity slots.old.items wide.old.items (vec_capacity wide.old) }
+    requires room { HasRoom room capacity slots.old.items others.old.items (vec_capacity slots.old) (vec_capacity others.old) }
     requires used { used ≡ length (entries_of slots.old.items) }
     requires few { used < capacity }
-    ensures room { HasRoom result capacity slots.new.items wide.new.items (vec_capacity wide.new) }
+    ensures room { HasRoom result capacity slots.new.items others.new.items (vec_capacity slots.new) (vec_capacity others.new) }
     ensures more { used < result }
     ensures map { map_of slots.new.items ≡ map_of slots.old.items }
     ensures entries { length (entries_of slots.new.items) ≡ length (entries_of slots.old.items) }
@@ -31,40 +41,52 @@ pub fn with_room(
     if used < room {
         return room;
     }
-    widen(slots, wide, room, capacity);
-    capacity
+    let more = room_behind(used, capacity);
+    widen(slots, others, room, more, capacity);
+    more
 }
 
-/// Moves all entries to slots with room for as many as the capacity.
+/// Moves all entries to slots with room for more.
 #[cold]
 #[inline(never)]
-fn widen(slots: &mut Vec<Option<Entry>>, wide: &mut Vec<Option<Entry>>, room: u32, capacity: u32)
-    requires room { HasRoom room capacity slots.old.items wide.old.items (vec_capacity wide.old) }
+fn widen(
+    slots: &mut Vec<Option<Entry>>,
+    others: &mut Vec<Option<Entry>>,
+    room: u32,
+    more: u32,
+    capacity: u32,
+)
+    requires room { HasRoom room capacity slots.old.items others.old.items (vec_capacity slots.old) (vec_capacity others.old) }
     requires less { room < capacity }
-    requires few { length (entries_of slots.old.items) < capacity }
-    ensures size { length slots.new.items ≡ 3 * capacity + 1 }
-    ensures table { IsTable capacity slots.new.items }
+    requires within { more ≤ capacity }
+    requires few { length (entries_of slots.old.items) ≤ more }
+    ensures size { length slots.new.items ≡ 3 * more + 1 }
+    ensures table { IsTable more slots.new.items }
     ensures map { map_of slots.new.items ≡ map_of slots.old.items }
     ensures entries { length (entries_of slots.new.items) ≡ length (entries_of slots.old.items) }
+    ensures free { others.new.items ≡ [] }
+    ensures fits { 3 * capacity + 1 ≤ vec_capacity slots.new }
+    ensures others_fit { 3 * capacity + 1 ≤ vec_capacity others.new }
 {
-    let Ok(()) = wide.resize(3 * capacity as usize + 1, None) else {
+    let Ok(()) = others.resize(3 * more as usize + 1, None) else {
         unreachable!()
     };
-    put_all(wide, slots, capacity);
-    std::mem::swap(slots, wide);
+    put_all(others, slots, more);
+    std::mem::swap(slots, others);
+    others.clear();
 }
 
 /// Frees all slots, and sees to it that there is room for so many entries. Answers for how many there is.
 pub fn free_all(
     slots: &mut Vec<Option<Entry>>,
-    wide: &mut Vec<Option<Entry>>,
+    others: &mut Vec<Option<Entry>>,
     room: u32,
     used: u32,
     capacity: u32,
 ) -> u32
-    requires room { HasRoom room capacity slots.old.items wide.old.items (vec_capacity wide.old) }
+    requires room { HasRoom room capacity slots.old.items others.old.items (vec_capacity slots.old) (vec_capacity others.old) }
     requires few { used ≤ capacity }
-    ensures room { HasRoom result capacity slots.new.items wide.new.items (vec_capacity wide.new) }
+    ensures room { HasRoom result capacity slots.new.items others.new.items (vec_capacity slots.new) (vec_capacity others.new) }
     ensures enough { used ≤ result }
     ensures free { slots.new.items ≡ replicate (3 * result + 1) None }
 {
@@ -72,11 +94,12 @@ pub fn free_all(
         slots.fill(None);
         return room;
     }
-    let Ok(()) = wide.resize(3 * capacity as usize + 1, None) else {
+    let Ok(()) = others.resize(3 * used as usize + 1, None) else {
         unreachable!()
     };
-    std::mem::swap(slots, wide);
-    capacity
+    std::mem::swap(slots, others);
+    others.clear();
+    used
 }
 
 /// Puts the entries of slots into others, which are free.

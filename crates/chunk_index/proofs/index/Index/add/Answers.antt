@@ -32,8 +32,9 @@ invariant_of-self c =
         size = ap length items ∙ c.put.ensures.size;
         table = subst (IsTable c.with_room-self-inside.result) (sym items) c.put.ensures.table;
         within = room.room.within;
-        untouched = room.room.untouched;
-        wide_fits = room.room.wide_fits;
+        free = room.room.free;
+        fits = room.room.fits;
+        others_fit = room.room.others_fit;
       };
       used = omega arith;
       count =

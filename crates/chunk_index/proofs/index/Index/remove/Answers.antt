@@ -70,8 +70,9 @@ invariant_of-self c =
         size = ap length items ∙ long ∙ c.self.invariant.room.size;
         table = subst (IsTable a.room) (sym items) c.close_hole.ensures.table;
         within = c.self.invariant.room.within;
-        untouched = c.self.invariant.room.untouched;
-        wide_fits = c.self.invariant.room.wide_fits;
+        free = c.self.invariant.room.free;
+        fits = c.self.invariant.room.fits;
+        others_fit = c.self.invariant.room.others_fit;
       };
       used =
           let fewer = fewer_entries a.slots.items at (ap is_used t.there) in
