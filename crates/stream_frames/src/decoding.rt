@@ -34,6 +34,7 @@ fn holds(limits: &FrameLimits, source: u16, payload: &[u8]) -> bool
 
 /// A commit, which has all that is left.
 #[tactic(auto, unfolding(crate::specs::Decoding::commit_at))]
+#[inline(always)]
 fn commit_at<'a>(limits: &FrameLimits, bytes: &'a [u8]) -> Option<Commit<'a>>
     ensures { option_map commit_value result ≡ reading.commit_at (limits_value limits.now) bytes.now }
 {
@@ -67,6 +68,7 @@ fn buffer_at(limits: &FrameLimits, bytes: &[u8]) -> Option<u8>
 
 /// The frame of this kind that has these bytes behind it.
 #[tactic(auto, unfolding(crate::specs::Decoding::frame_of))]
+#[inline(always)]
 fn frame_of<'a>(limits: &FrameLimits, kind: u8, bytes: &'a [u8]) -> Option<Frame<'a>>
     ensures { option_map frame_value result ≡ reading.frame_of (limits_value limits.now) kind bytes.now }
 {
@@ -92,6 +94,7 @@ fn frame_of<'a>(limits: &FrameLimits, kind: u8, bytes: &'a [u8]) -> Option<Frame
 
 /// The frame that has these bytes behind its length.
 #[tactic(auto, unfolding(crate::specs::Decoding::decoded))]
+#[inline(always)]
 pub fn decode<'a>(limits: &FrameLimits, bytes: &'a [u8]) -> Option<Frame<'a>>
     ensures decoded { option_map frame_value result ≡ reading.decoded (limits_value limits.now) bytes.now }
     ensures frame { IfSome result (λ frame. IsFrame (limits_value limits.now) (frame_value frame)) }

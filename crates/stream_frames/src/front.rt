@@ -25,6 +25,7 @@ pub enum Front<'a> {
 
 /// The same behind a length.
 #[tactic(auto, unfolding(crate::specs::Framing::behind_length))]
+#[inline(always)]
 fn behind_length<'a>(limits: &FrameLimits, size: usize, bytes: &'a [u8]) -> Front<'a>
     ensures front { front_value result ≡ framing.behind_length (limits_value limits.now) size bytes.now }
     ensures frame { IsFrameOf (limits_value limits.now) result }
@@ -44,8 +45,10 @@ fn behind_length<'a>(limits: &FrameLimits, size: usize, bytes: &'a [u8]) -> Fron
     }
 }
 
-/// What stands in front of these bytes.
+/// What stands in front of these bytes. It and all that it calls are no calls: so where a frame is but
+/// passed over, nothing of it is written, and where it is played, it stays in registers.
 #[tactic(auto, unfolding(crate::specs::Framing::front_of))]
+#[inline(always)]
 pub fn front_of<'a>(limits: &FrameLimits, bytes: &'a [u8]) -> Front<'a>
     ensures front { front_value result ≡ framing.front_of (limits_value limits.now) bytes.now }
     ensures frame { IsFrameOf (limits_value limits.now) result }

@@ -15,7 +15,9 @@ use stream_frames::{Front, front_of};
 impl<W: Words> StreamCore<W, W::Service> {
     ghost use Rattle.stream_producer.specs.Feeding.{IsFeeding, HasAtMostOneFrame, Feeds, FeedsSome, Stops, HasTaken, IsTraceOf, StopsStream};
 
-    /// Plays the frame that stands whole in the reader, if there is one.
+    /// Plays the frame that stands whole in the reader, if there is one. It is apart, as most frames stand
+    /// whole in their pieces.
+    #[inline(never)]
     fn play_front<O: Sink>(&mut self, out: &mut O) -> Result<(), StreamFault>
         requires feeding { HasAtMostOneFrame W.means self.old }
         requires may { O.may_write out.old }

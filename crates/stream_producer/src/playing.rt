@@ -47,7 +47,8 @@ fn is_refused(answer: Result<Arrived, WrongTarget>) -> bool
 impl<W: Words> Player<W, W::Service> {
     ghost use Rattle.stream_producer.specs.Standing.{Stands, FitsSetup, Plays, due_of};
 
-    /// An image arrives, with its patches.
+    /// An image arrives, with its patches. It is no call, so that what its frame says stays in registers.
+    #[inline(always)]
     fn play_commit(&mut self, limits: &FrameLimits, commit: Commit<'_>)
         requires stands { Stands W.means self.old }
         requires fits { FitsSetup (limits_value limits.now) (W.means.setup self.old.table) }
@@ -96,6 +97,7 @@ impl<W: Words> Player<W, W::Service> {
     }
 
     /// Plays a frame. A close plays nothing: its sequences are closed when the stream is finished.
+    #[inline(always)]
     pub(crate) fn play<O: Sink>(
         &mut self,
         limits: &FrameLimits,
