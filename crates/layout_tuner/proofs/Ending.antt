@@ -21,7 +21,7 @@ use Rattle.layout_tuner.specs.World.{Status, Outside, Unclaimed, Claimed, Held, 
 use Rattle.layout_tuner.specs.Rule.{ShowsPage, Fits, IsTuned}
 use Rattle.layout_tuner.specs.Collecting.{IsCaughtUp}
 use Rattle.layout_tuner.specs.Sits.{Sits, known_by}
-use Rattle.layout_tuner.specs.Closed.{IsDone, HasAllSeats, IsUnused, view_at, views_of}
+use Rattle.layout_tuner.specs.Closed.{IsDone, HasAllSeats, IsUnused, IsClosed, view_at, views_of}
 use Rattle.layout_tuner.proofs.Puts.{total-same, total-change}
 use Rattle.layout_tuner.proofs.Laid.{laid_as, laid_by}
 use Rattle.layout_tuner.proofs.Making.{total-zero}
@@ -203,18 +203,9 @@ view_at-is [] user seat at = absurd (some-ne-none seat (sym at))
 view_at-is (one ∷ seats) zero seat at = ap known_by (some-injective one seat at)
 view_at-is (one ∷ seats) (suc user) seat at = view_at-is seats user seat at
 
--- what is known of a table whose seats are all back
-pub record Ends (shape : Shape) (seats : List TuneSeat) (collector : CollectView) (words : List ℕ) : Type 0 where
-  pub unused : (page : ℕ) → page < shape.pages → IsUnused (get_or words (line page) 0)
-  pub taken : (at : ℕ) → total shape.users (λ user. times at (view_at seats user).completed) ≡ times at collector.taken
-  pub all_taken : total shape.users (λ user. length (view_at seats user).completed) ≡ length collector.taken
-  pub generations : (page : ℕ) → page < shape.pages → generation_in (get_or words (line page) 0) ≡ total shape.users (λ user. times page (view_at seats user).retiled)
-  pub laid : (page : ℕ) → page < shape.pages → IsLaid shape.users (λ user. view_at seats user) page (layout_in (get_or words (line page) 0)) (generation_in (get_or words (line page) 0))
-  pub all_retiled : total shape.pages (λ page. generation_in (get_or words (line page) 0)) ≡ total shape.users (λ user. length (view_at seats user).retiled)
-
 pub table_ends : (table : TuneTable) (id : ℕ) (seats : List TuneSeat) (watch : Watch) (collector : CollectView) (words slots : List ℕ)
     → Final (Seen (IsTuned table.shape) id (Collector table.shape.users (views_of seats) watch collector)) words slots → HasAllSeats table collector seats → collector.reading ≡ []
-    → IsCaughtUp table.shape.users (14 * table.shape.pages) collector → Ends table.shape seats collector words
+    → IsCaughtUp table.shape.users (14 * table.shape.pages) collector → IsClosed table.shape seats collector (λ page. get_or words (line page) 0)
 table_ends table id seats watch collector words slots final all none caught =
     let shape = table.shape in
     let views = views_of seats in

@@ -10,7 +10,7 @@ use Rattle.chunk_plain.proofs.Lists.{at_more, times-both}
 use Rattle.layout_tuner.specs.PageWords.{spot, chunks_of, layout_in, generation_in, is_clear}
 use Rattle.layout_tuner.specs.Knows.{Ask, UserView, seen_in, first_spots}
 use Rattle.layout_tuner.specs.Plays.{HasPage, Claims}
-use Rattle.layout_tuner.specs.Retiling.{WinsFirst, GivesBack, FindsBusy, FindsWorn}
+use Rattle.layout_tuner.specs.Retiling.{WinsFirst, GivesBack, GivesFirst, FindsBusy, FindsWorn}
 use Rattle.layout_tuner.proofs.Spots.{times-first_spots}
 use Rattle.layout_tuner.proofs.Laid.{sight_of}
 use Rattle.layout_tuner.proofs.Asking.{won_is, lost_is}
@@ -83,17 +83,8 @@ wins_more page count layout generation found old view new wins few is clear layo
 pub wins_first : (page found : ℕ) (old new : UserView) → Claims page 0 old found new → is_clear found 0 ≡ true → WinsFirst page 1 (layout_in found) (generation_in found) old new
 wins_first page found old new is clear = wins_more page 0 (layout_in found) (generation_in found) found old old new (wins_none page (layout_in found) (generation_in found) old) (omega arith) is clear refl refl
 
--- what a call to give chunks back leaves of the view
-pub record IsGiven (page count : ℕ) (old new : UserView) : Type 0 where
-  pub claimed : (kept : List ℕ) → old.claimed ≡ kept ++ first_spots page count → ((place : ℕ) → place < count → times (spot page place) kept ≡ 0) → new.claimed ≡ kept
-  pub asked : new.asked ≡ old.asked
-  pub held : new.held ≡ old.held
-  pub completed : new.completed ≡ old.completed
-  pub retiled : new.retiled ≡ old.retiled
-  pub sights : new.sights ≡ old.sights
-
 pub given_back : (page count layout generation : ℕ) (old view lost new : UserView) → WinsFirst page count layout generation old view → lost.claimed ≡ view.claimed → lost.held ≡ view.held
-    → lost.completed ≡ view.completed → lost.retiled ≡ view.retiled → IsGiven page count lost new → GivesBack old new
+    → lost.completed ≡ view.completed → lost.retiled ≡ view.retiled → GivesFirst page count lost new → GivesBack old new
 given_back page count layout generation old view lost new wins claimed held completed retiled is = record {
   claimed = is.claimed old.claimed (claimed ∙ wins.claimed) wins.fresh;
   held = is.held ∙ (held ∙ wins.held);
@@ -102,7 +93,7 @@ given_back page count layout generation old view lost new wins claimed held comp
 }
 
 pub finds_busy : (page place layout generation word : ℕ) (old view lost new : UserView) → WinsFirst page place layout generation old view → Claims page place view word lost → is_clear word place ≡ false
-    → place < chunks_of (layout_in word) → IsGiven page place lost new → FindsBusy page word old new
+    → place < chunks_of (layout_in word) → GivesFirst page place lost new → FindsBusy page word old new
 finds_busy page place layout generation word old view lost new wins is taken inside given =
     let asks = lost_is page place word view lost is taken in
     record {
@@ -127,11 +118,11 @@ has_page page layout generation old view wins some few = record {
 }
 
 -- nothing is given back where nothing was won
-pub given_none : (page : ℕ) (view : UserView) → IsGiven page 0 view view
+pub given_none : (page : ℕ) (view : UserView) → GivesFirst page 0 view view
 given_none page view = record { claimed = λ kept is none. is ∙ append-nil kept; asked = refl; held = refl; completed = refl; retiled = refl; sights = refl }
 
 pub finds_worn : (page layout generation : ℕ) (old view new : UserView) → WinsFirst page (chunks_of layout) layout generation old view → generation ≡ 262143 → 0 < chunks_of layout
-    → IsGiven page (chunks_of layout) view new → FindsWorn page old new
+    → GivesFirst page (chunks_of layout) view new → FindsWorn page old new
 finds_worn page layout generation old view new wins last some given = record {
   layout = layout;
   between = view;

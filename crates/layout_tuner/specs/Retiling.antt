@@ -1,12 +1,20 @@
 -- What a page that is partitioned anew, or isn't, does to the view of its user.
-use Rattle.std.specs.Prelude.{◌≡◌, ◌≢◌, ℕ, ◌+◌, ◌-◌, ◌*◌, ◌<◌, ◌++◌, true, false, List, [], ◌∷◌, length, replicate}
+use Rattle.std.specs.Prelude.{◌≡◌, ◌≢◌, ℕ, ◌+◌, ◌-◌, ◌*◌, ◌<◌, ◌≤◌, ◌++◌, true, false, List, [], ◌∷◌, length, replicate}
 use Rattle.chunk_plain.specs.Views.{At}
 use Rattle.chunk_plain.specs.Owned.{times}
 use Rattle.layout_tuner.specs.declared.table.TheConstants.{LAST_GENERATION}
+use Rattle.layout_tuner.specs.declared.table.Shape.{Shape}
+use Rattle.layout_tuner.specs.declared.tokens.TunePage.{TunePage}
 use Rattle.layout_tuner.specs.declared.tokens.TuneFault.{TuneFault}
 use Rattle.layout_tuner.specs.declared.tokens.TuneFault.TheVariants.{Busy, Worn}
 use Rattle.layout_tuner.specs.PageWords.{spot, chunks_of, layout_in, generation_in, is_clear}
 use Rattle.layout_tuner.specs.Knows.{Ask, UserView, seen_in, first_spots, retiles}
+
+-- a page of the table, and a layout that a page with chunks can have
+pub record CanBePartitioned (shape : Shape) (page layout : ℕ) : Type 0 where
+  pub inside : page < shape.pages
+  pub least : 1 ≤ layout
+  pub most : layout ≤ 5
 
 -- The user asked for the first so many places of a page in rising order, each once, and won each. Each word that it found has this layout and
 -- generation.
@@ -42,6 +50,22 @@ pub record Partitions (page layout : ℕ) (old new : UserView) : Type 0 where
   pub some : 0 < chunks_of old_layout
   pub unworn : generation < LAST_GENERATION
   pub new_is : new ≡ retiles between page layout (chunks_of layout) (generation + 1)
+
+-- This page was partitioned anew, and none of its chunks was handed out.
+pub record Retiles (page layout : ℕ) (tile : TunePage) (old new : UserView) : Type 0 where
+  pub partitions : Partitions page layout old new
+  pub page_is : tile.page ≡ page
+  pub none_handed : tile.handed ≡ 0
+  pub chunks_are : tile.chunks ≡ chunks_of layout
+
+-- The first so many chunks of a page, which were claimed last, were given back.
+pub record GivesFirst (page count : ℕ) (old new : UserView) : Type 0 where
+  pub claimed : (kept : List ℕ) → old.claimed ≡ kept ++ first_spots page count → ((place : ℕ) → place < count → times (spot page place) kept ≡ 0) → new.claimed ≡ kept
+  pub asked : new.asked ≡ old.asked
+  pub held : new.held ≡ old.held
+  pub completed : new.completed ≡ old.completed
+  pub retiled : new.retiled ≡ old.retiled
+  pub sights : new.sights ≡ old.sights
 
 -- The user won the first places of a page, and then found one claimed in this word, which is a chunk of the layout in the word. It gave back
 -- what it had won.

@@ -1,12 +1,8 @@
 //! A table whose seats are all back is closed.
-ghost use Rattle.std.specs.Prelude.{◌≡◌, ℕ, ◌+◌, ◌*◌, ◌<◌, [], length, slice_index_or};
-ghost use Rattle.chunk_plain.specs.Owned.{times};
-ghost use Rattle.layout_tuner.specs.PageWords.{layout_in, generation_in};
+ghost use Rattle.std.specs.Prelude.{◌≡◌, ◌*◌, [], length, slice_index_or};
 ghost use Rattle.layout_tuner.specs.Knows.{Collector, made_of, joined_of, watch_of, collector_of};
-ghost use Rattle.layout_tuner.specs.World.{total, IsLaid};
 ghost use Rattle.layout_tuner.specs.Collecting.{IsCaughtUp};
-ghost use Rattle.layout_tuner.specs.Closed.{HasAllSeats, IsUnused, view_at, views_of, with_view};
-ghost use Rattle.layout_tuner.specs.Plays.{IsUser};
+ghost use Rattle.layout_tuner.specs.Closed.{HasAllSeats, IsClosed, views_of, with_view};
 ghost use Rattle.layout_tuner.specs.Sits.{Sits, Attends, IsCollector, known_by, known_by_collector};
 
 use crate::seats::{CollectSeat, TuneSeat};
@@ -33,17 +29,7 @@ impl TuneTable {
         requires collect { Attends self collect }
         requires caught_up { IsCaughtUp self.shape.users (14 * self.shape.pages) (known_by_collector collect) }
         ensures pages { length result.items ≡ self.shape.pages }
-        ensures unused { (page : ℕ) → page < self.shape.pages → IsUnused (slice_index_or result.items page 0) }
-        ensures taken { (at : ℕ) → total self.shape.users (λ user. times at (view_at seats.items user).completed)
-            ≡ times at (known_by_collector collect).taken }
-        ensures all_taken { total self.shape.users (λ user. length (view_at seats.items user).completed)
-            ≡ length (known_by_collector collect).taken }
-        ensures generations { (page : ℕ) → page < self.shape.pages → generation_in (slice_index_or result.items page 0)
-            ≡ total self.shape.users (λ user. times page (view_at seats.items user).retiled) }
-        ensures laid { (page : ℕ) → page < self.shape.pages → IsLaid self.shape.users (λ user. view_at seats.items user) page
-            (layout_in (slice_index_or result.items page 0)) (generation_in (slice_index_or result.items page 0)) }
-        ensures all_retiled { total self.shape.pages (λ page. generation_in (slice_index_or result.items page 0))
-            ≡ total self.shape.users (λ user. length (view_at seats.items user).retiled) }
+        ensures closed { IsClosed self.shape seats.items (known_by_collector collect) (λ page. slice_index_or result.items page 0) }
     {
         let mut collect = collect;
         self.join_all(&mut collect, seats);

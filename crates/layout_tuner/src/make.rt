@@ -2,8 +2,8 @@
 ghost use Rattle.std.specs.Prelude.{◌≡◌, ℕ, ◌+◌, ◌<◌, ◌≤◌, [], IfOk, OnOk};
 ghost use Rattle.layout_tuner.specs.declared.table.Shape.{Shape};
 ghost use Rattle.layout_tuner.specs.Knows.{User, Collector, Nothing, newcomer, new_collector, made_of, joined_of, watch_of, collector_of};
-ghost use Rattle.layout_tuner.specs.Closed.{HasNewSeats};
-ghost use Rattle.layout_tuner.specs.Sits.{Attends, IsCollector, known_by_collector};
+ghost use Rattle.layout_tuner.specs.Closed.{HasNewSeats, IsNew};
+ghost use Rattle.layout_tuner.specs.Sits.{IsCollector};
 
 use crate::seats::{CollectSeat, TuneSeat};
 use crate::steps::{Knowledge, PageSeat};
@@ -34,11 +34,7 @@ impl TuneTable {
         requires most_pages { pages ≤ MAX_TUNE_PAGES }
         requires some_user { 1 ≤ users }
         requires most_users { users ≤ MAX_USERS }
-        ensures pages { IfOk result (λ made. made.0.shape.pages ≡ pages) }
-        ensures users { IfOk result (λ made. made.0.shape.users ≡ users) }
-        ensures seats { IfOk result (λ made. HasNewSeats made.0 users made.1.items) }
-        ensures collect { IfOk result (λ made. Attends made.0 made.2) }
-        ensures collect_view { IfOk result (λ made. known_by_collector made.2 ≡ new_collector) }
+        ensures { IfOk result (λ made. IsNew pages users made.0 made.1.items made.2) }
     {
         let shape = Shape { pages, users };
         let words = vec![in alloc; FIRST_WORD; pages as usize * LINE_WORDS]?;

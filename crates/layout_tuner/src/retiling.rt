@@ -1,9 +1,8 @@
 //! A page is partitioned anew.
-ghost use Rattle.std.specs.Prelude.{◌≡◌, ℕ, ◌+◌, ◌<◌, ◌≤◌, ◌++◌, List, length, IfOk, IfErr};
+ghost use Rattle.std.specs.Prelude.{◌≡◌, ℕ, ◌+◌, ◌<◌, ◌≤◌, length, IfOk, IfErr};
 ghost use Rattle.chunk_plain.specs.Owned.{times};
-ghost use Rattle.layout_tuner.specs.PageWords.{spot, chunks_of};
-ghost use Rattle.layout_tuner.specs.Knows.{first_spots};
-ghost use Rattle.layout_tuner.specs.Retiling.{Partitions, Refuses, most_steps};
+ghost use Rattle.layout_tuner.specs.PageWords.{spot};
+ghost use Rattle.layout_tuner.specs.Retiling.{CanBePartitioned, Retiles, Refuses, GivesFirst, most_steps};
 ghost use Rattle.layout_tuner.specs.Sits.{Sits, known_by};
 
 use crate::seats::TuneSeat;
@@ -25,11 +24,8 @@ impl TuneTable {
         steps: &mut Steps<L>,
     ) -> Result<TunePage, TuneFault>
         requires seat { Sits self.now seat.old }
-        requires page { page < self.now.shape.pages }
-        requires least { 1 ≤ layout }
-        requires most { layout ≤ 5 }
-        ensures ok { IfOk result (λ _. Partitions page layout (known_by seat.old) (known_by seat.new)) }
-        ensures page { IfOk result (λ tile. (tile.page ≡ page) × (tile.handed ≡ 0) × (tile.chunks ≡ chunks_of layout)) }
+        requires page { CanBePartitioned self.now.shape page layout }
+        ensures ok { IfOk result (λ tile. Retiles page layout tile (known_by seat.old) (known_by seat.new)) }
         ensures steps_ok { IfOk result (λ _. steps.new + length (known_by seat.old).asked
             ≡ steps.old + length (known_by seat.new).asked + 1) }
         ensures refused { IfErr result (λ fault. Refuses page fault (known_by seat.old) (known_by seat.new)) }
@@ -72,13 +68,7 @@ impl TuneTable {
         requires page { page < self.now.shape.pages }
         requires count { count ≤ MAX_CHUNKS_PER_PAGE }
         requires has { (place : ℕ) → place < count → 0 < times (spot page place) (known_by seat.old).claimed }
-        ensures claimed { (kept : List ℕ) → (known_by seat.old).claimed ≡ kept ++ first_spots page count
-            → ((place : ℕ) → place < count → times (spot page place) kept ≡ 0) → (known_by seat.new).claimed ≡ kept }
-        ensures asked { (known_by seat.new).asked ≡ (known_by seat.old).asked }
-        ensures held { (known_by seat.new).held ≡ (known_by seat.old).held }
-        ensures completed { (known_by seat.new).completed ≡ (known_by seat.old).completed }
-        ensures retiled { (known_by seat.new).retiled ≡ (known_by seat.old).retiled }
-        ensures sights { (known_by seat.new).sights ≡ (known_by seat.old).sights }
+        ensures given { GivesFirst page count (known_by seat.old) (known_by seat.new) }
         ensures steps { steps.new ≡ steps.old + count }
         ensures seat { Sits self.now seat.new }
         ensures number { seat.new.number ≡ seat.old.number }

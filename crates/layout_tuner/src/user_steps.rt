@@ -1,9 +1,10 @@
 //! The steps of a user's seat: each is one atomic step on the word of a page, but for a claim, which
 //! reads the word before it changes it.
-ghost use Rattle.std.specs.Prelude.{◌≡◌, ℕ, ◌+◌, ◌<◌, ◌≤◌};
+ghost use Rattle.std.specs.Prelude.{◌≡◌, ℕ, ◌+◌, ◌<◌};
 ghost use Rattle.layout_tuner.specs.PageWords.{spot, chunks_of};
 ghost use Rattle.layout_tuner.specs.Knows.{begins, completes, gives, retiles};
 ghost use Rattle.layout_tuner.specs.Plays.{Claims, Tests, HasPage};
+ghost use Rattle.layout_tuner.specs.Retiling.{CanBePartitioned};
 ghost use Rattle.layout_tuner.specs.Sits.{Sits, HasClaimed, HasHeld, known_by};
 
 use crate::moves::Move;
@@ -132,11 +133,9 @@ impl TuneTable {
         layout: u8,
     )
         requires seat { Sits self.now seat.old }
-        requires page { page < self.now.shape.pages }
+        requires page { CanBePartitioned self.now.shape page layout }
         requires has { HasPage (known_by seat.old) page old_layout old_generation }
         requires unworn { old_generation < LAST_GENERATION }
-        requires least { 1 ≤ layout }
-        requires most { layout ≤ 5 }
         ensures seat { Sits self.now seat.new }
         ensures number { seat.new.number ≡ seat.old.number }
         ensures view { known_by seat.new

@@ -10,12 +10,13 @@ use Rattle.layout_tuner.specs.Knows.{Knows, Collector, watch_of, collector_of}
 use Rattle.layout_tuner.specs.World.{IsLaid}
 use Rattle.layout_tuner.specs.Rule.{IsTuned}
 use Rattle.layout_tuner.specs.Plays.{Mine}
-use Rattle.layout_tuner.specs.Closed.{IsUnused, view_at, views_of}
+use Rattle.layout_tuner.specs.Closed.{IsUnused, IsClosed, view_at, views_of}
 use Rattle.layout_tuner.proofs.Puts.{total-same}
-use Rattle.layout_tuner.proofs.Ending.{at_get, Ends, table_ends}
+use Rattle.layout_tuner.proofs.Ending.{at_get, table_ends}
 use Rattle.layout_tuner.proofs.table.TuneTable.close.Goals as goal
 
-ends : (c : goal.After-free) → Ends c.args.self.shape c.args.seats.items (collector_of c.args.collect.seat.me.0) (slots_items c.close_with-closed.result.words)
+ends : (c : goal.After-free) → IsClosed c.args.self.shape c.args.seats.items (collector_of c.args.collect.seat.me.0)
+    (λ page. get_or (slots_items c.close_with-closed.result.words) (line page) 0)
 ends c =
     let self = c.args.self in let me = c.args.collect.seat.me.0 in let seats = c.args.seats.items in let last = c.join_all.new.collect.seat in
     let words = slots_items c.close_with-closed.result.words in let slots = slots_items c.close_with-closed.result.slots in
@@ -47,24 +48,15 @@ loop-page-preserved c =
 pub returns-clause-pages : goal.returns-clause-pages
 returns-clause-pages c = let many = c.loop-page.invariant.many in let all = c.args.self.last_count in let len = c.loop-page.last.ok.0 in omega (arith, many, all, len)
 
-pub returns-clause-unused : goal.returns-clause-unused
-returns-clause-unused c page below = subst IsUnused (sym (word_of c page below)) ((ends c).unused page below)
-
-pub returns-clause-taken : goal.returns-clause-taken
-returns-clause-taken c at = (ends c).taken at
-
-pub returns-clause-all_taken : goal.returns-clause-all_taken
-returns-clause-all_taken c = (ends c).all_taken
-
-pub returns-clause-generations : goal.returns-clause-generations
-returns-clause-generations c page below = ap generation_in (word_of c page below) ∙ (ends c).generations page below
-
-pub returns-clause-laid : goal.returns-clause-laid
-returns-clause-laid c page below =
-    subst (λ w. IsLaid c.args.self.shape.users (λ user. view_at c.args.seats.items user) page (layout_in w) (generation_in w)) (sym (word_of c page below)) ((ends c).laid page below)
-
-pub returns-clause-all_retiled : goal.returns-clause-all_retiled
-returns-clause-all_retiled c =
-    total-same c.args.self.shape.pages (λ page. generation_in (get_or c.loop-page.last.items page 0)) (λ page. generation_in (get_or (slots_items c.close_with-closed.result.words) (line page) 0))
-    (λ page below. ap generation_in (word_of c page below))
-    ∙ (ends c).all_retiled
+pub returns-clause-closed : goal.returns-clause-closed
+returns-clause-closed c =
+    let all = ends c in let shape = c.args.self.shape in let seats = c.args.seats.items in
+    record {
+      unused = λ page below. subst IsUnused (sym (word_of c page below)) (all.unused page below);
+      taken = all.taken;
+      all_taken = all.all_taken;
+      generations = λ page below. ap generation_in (word_of c page below) ∙ all.generations page below;
+      laid = λ page below. subst (λ w. IsLaid shape.users (λ user. view_at seats user) page (layout_in w) (generation_in w)) (sym (word_of c page below)) (all.laid page below);
+      all_retiled = total-same shape.pages (λ page. generation_in (get_or c.loop-page.last.items page 0)) (λ page. generation_in (get_or (slots_items c.close_with-closed.result.words) (line page) 0))
+          (λ page below. ap generation_in (word_of c page below)) ∙ all.all_retiled;
+    }

@@ -12,15 +12,21 @@ of_words-requires c =
     ∙ (c.in_ok-words.ensures.items_if_clones_equal (λ y h. h) ∙ ap (λ n. replicate n 1342177280) (let e : c.args.pages * 8 ≡ line c.args.pages = omega arith in e)) in
     starts_tuned (record { pages = c.args.pages; users = c.args.users }) c.deref.result.now all
 
-pub returns-clause-collect : goal.returns-clause-collect
-returns-clause-collect c =
+pub returns : goal.returns
+returns c =
     let me_is = c.in_ok-seats.ensures.me in
     record {
-      serving = record {
-        joined = c.in_ok-seats.ensures.seat ∙ c.in_ok-table.ensures.2;
-        idle = subst IsCollector (sym me_is) refl;
-        all_made = ap (λ (m : Mine). made_of m.0) me_is;
-        none_joined = ap (λ (m : Mine). joined_of m.0) me_is;
+      pages_are = refl;
+      users_are = refl;
+      has_seats = c.in_ok-seats.ensures.seats;
+      attends = record {
+        serving = record {
+          joined = c.in_ok-seats.ensures.seat ∙ c.in_ok-table.ensures.2;
+          idle = subst IsCollector (sym me_is) refl;
+          all_made = ap (λ (m : Mine). made_of m.0) me_is;
+          none_joined = ap (λ (m : Mine). joined_of m.0) me_is;
+        };
+        none_read = ap (λ (m : Mine). (collector_of m.0).reading) me_is;
       };
-      none_read = ap (λ (m : Mine). (collector_of m.0).reading) me_is;
+      none_collected = ap (λ (m : Mine). collector_of m.0) me_is;
     }

@@ -1,11 +1,12 @@
-use Rattle.std.proofs.Common.{◌≡◌, ◌+◌, ◌<◌, ◌∙◌, subst, sym, ap, arith, true}
+use Rattle.std.proofs.Common.{◌≡◌, ◌+◌, ◌<◌, ◌∙◌, refl, subst, sym, ap, arith, true}
 use Rattle.chunk_plain.specs.Owned.{times}
 use Rattle.layout_tuner.specs.PageWords.{spot, chunks_of, layout_in, generation_in}
 use Rattle.layout_tuner.specs.Knows.{UserView, retiles}
+use Rattle.layout_tuner.specs.Retiling.{GivesFirst}
 use Rattle.layout_tuner.specs.Sits.{known_by}
 use Rattle.layout_tuner.proofs.Puts.{some_chunks}
 use Rattle.layout_tuner.proofs.Asking.{taken_word, clear_word, lost_is}
-use Rattle.layout_tuner.proofs.Wins.{wins_none, wins_first, wins_has, wins_agree, wins_more, wins_all, IsGiven, given_none, finds_busy, finds_worn, has_page}
+use Rattle.layout_tuner.proofs.Wins.{wins_none, wins_first, wins_has, wins_agree, wins_more, wins_all, given_none, finds_busy, finds_worn, has_page}
 use Rattle.layout_tuner.proofs.table.TuneTable.retile.Goals as goal
 
 pub returns-then-claimed-clause-refused : goal.returns-then-claimed-clause-refused
@@ -38,13 +39,12 @@ pub returns-then-claimed-2-clause-refused : goal.returns-then-claimed-2-clause-r
 returns-then-claimed-2-clause-refused t c =
     let page = c.args.page in let at = c.loop-place.place in let first = c.step_claim-first.result in let found = c.step_claim-found.result in
     let old = known_by c.args.seat.now in let view = known_by c.loop-place.seat in let lost = known_by c.step_claim-found.new.seat in let new = known_by c.give_first.new.seat in
-    let claims = c.step_claim-found.ensures.claims in let wins = c.loop-place.invariant.wins in let given = c.give_first.ensures in
+    let claims = c.step_claim-found.ensures.claims in let wins = c.loop-place.invariant.wins in
     let few = c.chunk_count-old_chunks.ensures.most in let less = c.loop-place-test.true in let some = c.loop-place.auto.place in
     let same = wins_agree page at (layout_in first) (generation_in first) found old view lost wins (omega (arith, few, less)) some claims in
     let count : c.chunk_count-old_chunks.result ≡ chunks_of (layout_in first) = c.chunk_count-old_chunks.ensures.is ∙ ap chunks_of c.layout_of-old_layout.ensures in
     finds_busy page at (layout_in first) (generation_in first) found old view lost new wins claims (taken_word found at (c.claimed-in-loop-place.ensures.0 c.if-claimed-2.true))
-    (subst (λ l. at < chunks_of l) (sym same.0) (omega (arith, less, count)))
-    (record { claimed = given.claimed; asked = given.asked; held = given.held; completed = given.completed; retiled = given.retiled; sights = given.sights })
+    (subst (λ l. at < chunks_of l) (sym same.0) (omega (arith, less, count))) c.give_first.ensures.given
 
 pub returns-then-claimed-2-clause-steps_refused : goal.returns-then-claimed-2-clause-steps_refused
 returns-then-claimed-2-clause-steps_refused t c =
@@ -84,13 +84,11 @@ returns-then-generation-eq-LAST_GENERATION-clause-refused t c =
     let old = known_by c.args.seat.now in let view = known_by c.loop-place.seat in
     let past = c.loop-place-test.false in let end = c.loop-place.auto.place-end c.chunk_count-old_chunks.ensures.some in let some = c.chunk_count-old_chunks.ensures.some in
     let count : c.chunk_count-old_chunks.result ≡ chunks_of layout = c.chunk_count-old_chunks.ensures.is ∙ ap chunks_of c.layout_of-old_layout.ensures in
-    let given = c.give_first-then-generation-eq-LAST_GENERATION.ensures in
     let all : at ≡ chunks_of layout = omega (arith, past, end, count) in
     finds_worn page layout (generation_in first) old view (known_by c.give_first-then-generation-eq-LAST_GENERATION.new.seat)
     (wins_all page at layout (generation_in first) old view c.loop-place.invariant.wins all)
     (sym c.generation_of-generation.ensures.is ∙ c.if-generation-eq-LAST_GENERATION.true) (omega (arith, some, count))
-    (subst (λ n. IsGiven page n view (known_by c.give_first-then-generation-eq-LAST_GENERATION.new.seat)) count
-    (record { claimed = given.claimed; asked = given.asked; held = given.held; completed = given.completed; retiled = given.retiled; sights = given.sights }))
+    (subst (λ n. GivesFirst page n view (known_by c.give_first-then-generation-eq-LAST_GENERATION.new.seat)) count c.give_first-then-generation-eq-LAST_GENERATION.ensures.given)
 
 pub step_retile-requires-clause-has : goal.step_retile-requires-clause-has
 step_retile-requires-clause-has t c =
@@ -112,11 +110,16 @@ returns-clause-ok t c =
     let all : at ≡ chunks_of layout = omega (arith, past, end, count) in
     let most = c.generation_of-generation.ensures.most in let last = c.if-generation-eq-LAST_GENERATION.false in let is = c.generation_of-generation.ensures.is in
     record {
-      old_layout = layout;
-      generation = generation_in first;
-      between = view;
-      wins = wins_all page at layout (generation_in first) old view c.loop-place.invariant.wins all;
-      some = omega (arith, some, count);
-      unworn = omega (arith, most, last, is);
-      new_is = c.step_retile.ensures.view ∙ ap (λ g. retiles view page c.args.layout (chunks_of c.args.layout) (g + 1)) is;
+      partitions = record {
+        old_layout = layout;
+        generation = generation_in first;
+        between = view;
+        wins = wins_all page at layout (generation_in first) old view c.loop-place.invariant.wins all;
+        some = omega (arith, some, count);
+        unworn = omega (arith, most, last, is);
+        new_is = c.step_retile.ensures.view ∙ ap (λ g. retiles view page c.args.layout (chunks_of c.args.layout) (g + 1)) is;
+      };
+      page_is = refl;
+      none_handed = refl;
+      chunks_are = c.chunk_count.ensures.is;
     }
