@@ -18,10 +18,10 @@ use Rattle.layout_tuner.proofs.Puts.{total-same}
 use Rattle.tune_run.specs.declared.counts.UserCounts.{UserCounts}
 use Rattle.tune_run.specs.declared.jobs.UserJob.{UserJob}
 use Rattle.tune_run.specs.Counts.{no_counts}
-use Rattle.tune_run.specs.Turns.{IsFree, TakesTurns}
+use Rattle.tune_run.specs.Turns.{IsFree, TakesTurns, AddsUp}
 use Rattle.tune_run.specs.Jobs.{IsReady, IsPlayed, AreReady, count_at}
 use Rattle.tune_run.specs.Told.{HasToldAll, HaveTold}
-use Rattle.tune_run.proofs.Sums.{AddsUp, turns_add_up}
+use Rattle.tune_run.proofs.Sums.{turns_add_up}
 
 -- ---- jobs are made
 

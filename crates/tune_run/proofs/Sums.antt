@@ -13,17 +13,11 @@ use Rattle.tune_run.specs.declared.counts.Deed.{Deed}
 use Rattle.tune_run.specs.declared.counts.Deed.TheVariants.{Completed, FoundNone, Partitioned, Refused}
 use Rattle.tune_run.specs.declared.counts.UserCounts.{UserCounts}
 use Rattle.tune_run.specs.Counts.{counted}
-use Rattle.tune_run.specs.Turns.{IsFree, CompletesOne, PartitionsOne, RefusesOne, DoesClaim, DoesRetile, TakesTurns, retile_turns}
+use Rattle.tune_run.specs.Turns.{IsFree, CompletesOne, PartitionsOne, RefusesOne, DoesClaim, DoesRetile, TakesTurns, Leaves, AddsUp, retile_turns}
 
 -- the only one is taken out
 without-one : (at : ℕ) → without at (at ∷ []) ≡ []
 without-one at = ap (λ b. if b then [] else at ∷ []) (eq-eqb at at refl)
-
--- What a step of turns makes of a view whose user has nothing: so many chunks were completed, and so many pages partitioned anew.
-pub record Leaves (completed retiled : ℕ) (old new : UserView) : Type 0 where
-  pub free : IsFree new
-  pub completed_is : length new.completed ≡ length old.completed + completed
-  pub retiled_is : length new.retiled ≡ length old.retiled + retiled
 
 pub completes_one : (old new : UserView) → IsFree old → CompletesOne old new → Leaves 1 0 old new
 completes_one old new free one =
@@ -76,12 +70,6 @@ pub refuses_one : (page : ℕ) (old new : UserView) → IsFree old → RefusesOn
 refuses_one page old new free one = gives_back old new free (refused page one.fault old new one.refuses)
 
 -- ---- all turns
-
--- what the counts of so many turns add up to
-pub record AddsUp (user turns : ℕ) (counts : UserCounts) (old new : UserView) : Type 0 where
-  pub leaves : Leaves counts.claimed counts.retiled old new
-  pub claims : counts.claimed + counts.none + retile_turns user turns ≡ turns
-  pub retiles : counts.retiled + counts.refused ≡ retile_turns user turns
 
 -- one turn more
 adds_claim : (pages user turns : ℕ) (deed : Deed) (before : UserCounts) (old between new : UserView) → AddsUp user turns before old between → DoesClaim pages deed between new

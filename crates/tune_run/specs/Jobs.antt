@@ -1,7 +1,7 @@
 -- The jobs of users that run on threads of their own, and a whole run.
-use Rattle.std.specs.Prelude.{◌≡◌, ℕ, ◌+◌, ◌<◌, List, length, slice_index_or}
+use Rattle.std.specs.Prelude.{◌≡◌, ℕ, ◌+◌, ◌*◌, ◌<◌, ◌≤◌, List, length, slice_index_or}
 use Rattle.layout_tuner.specs.declared.table.TuneTable.{TuneTable}
-use Rattle.layout_tuner.specs.Knows.{newcomer}
+use Rattle.layout_tuner.specs.Knows.{CollectView, newcomer}
 use Rattle.layout_tuner.specs.Sits.{Sits, known_by}
 use Rattle.tune_run.specs.declared.counts.UserCounts.{UserCounts}
 use Rattle.tune_run.specs.declared.jobs.UserJob.{UserJob}
@@ -29,6 +29,12 @@ AreReady table jobs = (user : ℕ) (d : UserJob) → user < length jobs → IsRe
 -- and each has taken so many turns
 abbrev pub ArePlayed : TuneTable → (turns : ℕ) → List UserJob → Type 0
 ArePlayed table turns jobs = (user : ℕ) (d : UserJob) → user < length jobs → IsPlayed table turns user (slice_index_or jobs user d)
+
+-- In so many rounds the collector looked at each of the 56 places of the four pages once, and it took so many chunks.
+pub record CollectsRounds (rounds : ℕ) (old new : CollectView) (taken : ℕ) : Type 0 where
+  pub taken_is : length new.taken ≡ length old.taken + taken
+  pub most : taken ≤ 56 * rounds
+  pub looks : length new.looks ≡ length old.looks + 56 * rounds
 
 -- counts of a user, which counts from 1: C and N are of the turns that claim, and R and F of those that partition a page anew
 pub record CountsTurns (user turns : ℕ) (counts : UserCounts) : Type 0 where

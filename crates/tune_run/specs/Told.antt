@@ -1,5 +1,5 @@
 -- Users that have taken their turns and told the collector what they completed, and what a run comes to.
-use Rattle.std.specs.Prelude.{◌≡◌, ℕ, ◌+◌, ◌<◌, List, length, slice_index_or}
+use Rattle.std.specs.Prelude.{◌≡◌, ℕ, ◌+◌, ◌<◌, ◌≤◌, List, [], length, vec_capacity, slice_index_or}
 use Rattle.chunk_plain.specs.Views.{At}
 use Rattle.layout_tuner.specs.declared.table.TuneTable.{TuneTable}
 use Rattle.layout_tuner.specs.declared.seats.TuneSeat.{TuneSeat}
@@ -9,9 +9,17 @@ use Rattle.layout_tuner.specs.World.{total}
 use Rattle.layout_tuner.specs.Closed.{IsUnused}
 use Rattle.layout_tuner.specs.Sits.{Sits, known_by}
 use Rattle.tune_run.specs.declared.counts.UserCounts.{UserCounts}
+use Rattle.tune_run.specs.declared.run.Room.{Room}
 use Rattle.tune_run.specs.declared.run.TuneReport.{TuneReport}
 use Rattle.tune_run.specs.Turns.{IsFree, TakesTurns}
 use Rattle.tune_run.specs.Jobs.{CountsTurns, count_at}
+
+-- nothing yet, and room for what becomes of so many users
+pub record HasRoom (users : ℕ) (room : Room) : Type 0 where
+  pub no_counts : room.counts.items ≡ []
+  pub no_seats : room.seats.items ≡ []
+  pub counts : users ≤ vec_capacity room.counts
+  pub seats : users ≤ vec_capacity room.seats
 
 -- The seat of the user with this number, counted from 0, whose turns come to these counts, and which told all that it completed.
 pub record HasToldAll (table : TuneTable) (turns user : ℕ) (collector : CollectView) (counts : UserCounts) (seat : TuneSeat) : Type 0 where

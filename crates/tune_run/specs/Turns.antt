@@ -1,14 +1,22 @@
 -- What the turns of a user are, and what they come to, by what the user found in each.
-use Rattle.std.specs.Prelude.{◌≡◌, ℕ, zero, suc, ◌+◌, ◌*◌, ◌%◌, ◌==◌, [], if◌then◌else◌, MatchBool}
+use Rattle.std.specs.Prelude.{◌≡◌, ℕ, zero, suc, ◌+◌, ◌*◌, ◌%◌, ◌≤◌, ◌==◌, [], length, if◌then◌else◌, MatchBool}
+use Rattle.layout_tuner.specs.declared.table.TuneTable.{TuneTable}
 use Rattle.layout_tuner.specs.declared.tokens.TuneFault.{TuneFault}
 use Rattle.layout_tuner.specs.PageWords.{spot}
 use Rattle.layout_tuner.specs.Knows.{UserView, begins, completes}
 use Rattle.layout_tuner.specs.Claiming.{AsksInVain, ClaimsFirst}
 use Rattle.layout_tuner.specs.Retiling.{Partitions, Refuses}
+use Rattle.tune_run.specs.declared.turns.TheConstants.{MAX_TURNS}
 use Rattle.tune_run.specs.declared.counts.Deed.{Deed}
 use Rattle.tune_run.specs.declared.counts.Deed.TheVariants.{Completed, FoundNone, Partitioned, Refused}
 use Rattle.tune_run.specs.declared.counts.UserCounts.{UserCounts}
 use Rattle.tune_run.specs.Counts.{no_counts, counted}
+
+-- a table of four pages, and how many turns its users take
+pub record MayTurn (table : TuneTable) (turns : ℕ) : Type 0 where
+  pub four : table.shape.pages ≡ 4
+  pub some : 1 ≤ turns
+  pub most : turns ≤ MAX_TURNS
 
 -- the user has claimed and holds no chunk
 pub record IsFree (view : UserView) : Type 0 where
@@ -62,3 +70,15 @@ TakesTurns pages user (suc turns) old new counts = (between : UserView) × (befo
 abbrev pub retile_turns : (user turns : ℕ) → ℕ
 retile_turns user zero = 0
 retile_turns user (suc turns) = if (user + (turns + 1)) % 3 == 0 then retile_turns user turns + 1 else retile_turns user turns
+
+-- What a step of turns makes of a view whose user has nothing: so many chunks were completed, and so many pages partitioned anew.
+pub record Leaves (completed retiled : ℕ) (old new : UserView) : Type 0 where
+  pub free : IsFree new
+  pub completed_is : length new.completed ≡ length old.completed + completed
+  pub retiled_is : length new.retiled ≡ length old.retiled + retiled
+
+-- what the counts of so many turns add up to
+pub record AddsUp (user turns : ℕ) (counts : UserCounts) (old new : UserView) : Type 0 where
+  pub leaves : Leaves counts.claimed counts.retiled old new
+  pub claims : counts.claimed + counts.none + retile_turns user turns ≡ turns
+  pub retiles : counts.retiled + counts.refused ≡ retile_turns user turns

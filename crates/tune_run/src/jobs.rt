@@ -1,9 +1,9 @@
 //! Users take their turns on threads of their own, beside the collector.
-ghost use Rattle.std.specs.Prelude.{◌≡◌, ℕ, ◌+◌, ◌*◌, ◌<◌, ◌≤◌, length};
-ghost use Rattle.layout_tuner.specs.Sits.{Sits, Attends, known_by, known_by_collector};
+ghost use Rattle.std.specs.Prelude.{◌≡◌, ◌<◌, ◌≤◌, length};
+ghost use Rattle.layout_tuner.specs.Sits.{Attends, known_by_collector};
 ghost use Rattle.tune_run.specs.declared.turns.TheConstants.{MAX_TURNS};
-ghost use Rattle.tune_run.specs.Jobs.{IsReady, IsPlayed, AreReady, ArePlayed};
-ghost use Rattle.tune_run.specs.Turns.{IsFree, TakesTurns};
+ghost use Rattle.tune_run.specs.Jobs.{IsReady, IsPlayed, AreReady, ArePlayed, CollectsRounds};
+ghost use Rattle.tune_run.specs.Turns.{MayTurn};
 
 use crate::counts::UserCounts;
 use crate::turns::tune_turns;
@@ -22,43 +22,27 @@ pub(crate) struct UserJob {
 }
 
 /// The turns of a user with a counter of its own.
-fn counted_turns<L: Ledger>(
-    table: &TuneTable,
-    seat: &mut TuneSeat,
-    user: u8,
-    turns: u32,
-    blank: Blank,
-) -> UserCounts
-    requires table { table.now.shape.pages ≡ 4 }
-    requires seat { Sits table.now seat.old }
-    requires free { IsFree (known_by seat.old) }
-    requires some_user { 1 ≤ user }
-    requires most_users { user ≤ 8 }
-    requires some_turn { 1 ≤ turns }
-    requires most_turns { turns ≤ MAX_TURNS }
+fn counted_turns<L: Ledger>(table: &TuneTable, job: &mut UserJob, turns: u32, blank: Blank)
+    requires turns { MayTurn table.now turns }
+    requires ready { IsReady table.now job.old.seat.number job.old }
     requires name { blank.name ≡ L.name }
     requires parts { blank.parts ≡ L.parts }
     requires some_part { 0 < L.parts }
-    ensures turns { TakesTurns table.now.shape.pages user turns (known_by seat.old) (known_by seat.new) result }
-    ensures free { IsFree (known_by seat.new) }
-    ensures seat { Sits table.now seat.new }
-    ensures number { seat.new.number ≡ seat.old.number }
+    ensures { IsPlayed table.now turns job.old.seat.number job.new }
 {
     let mut steps = Steps::<L>::new(blank);
-    tune_turns(table, seat, user, turns, &mut steps)
+    let user = job.seat.number + 1;
+    job.counts = tune_turns(table, &mut job.seat, user, turns, &mut steps);
 }
 
 /// The job of one user. It passes the gate before its first turn.
 fn play_user<G: Gate>(gate: &G, table: &TuneTable, job: &mut UserJob, turns: u32)
-    requires table { table.now.shape.pages ≡ 4 }
+    requires turns { MayTurn table.now turns }
     requires ready { IsReady table.now job.old.seat.number job.old }
-    requires some_turn { 1 ≤ turns }
-    requires most_turns { turns ≤ MAX_TURNS }
     ensures { IsPlayed table.now turns job.old.seat.number job.new }
 {
-    let user = job.seat.number + 1;
-    gate.pass(u16::from(user), 1);
-    job.counts = counted_turns::<Brand>(table, &mut job.seat, user, turns, Blank::new(1));
+    gate.pass(u16::from(job.seat.number) + 1, 1);
+    counted_turns::<Brand>(table, job, turns, Blank::new(1));
 }
 
 /// The jobs of all users, each on a thread of its own.
@@ -69,11 +53,9 @@ fn play_users<R: Threads + Sync, G: Gate + Sync>(
     jobs: &mut [UserJob],
     turns: u32,
 )
-    requires table { table.now.shape.pages ≡ 4 }
+    requires turns { MayTurn table.now turns }
     requires some { 0 < length jobs.old }
     requires ready { AreReady table.now jobs.old }
-    requires some_turn { 1 ≤ turns }
-    requires most_turns { turns ≤ MAX_TURNS }
     ensures { ArePlayed table.now turns jobs.new }
 {
     let threads = jobs.len();
@@ -82,7 +64,7 @@ fn play_users<R: Threads + Sync, G: Gate + Sync>(
         jobs,
         threads,
         &|user: usize, job: &mut UserJob|
-            requires { (table.now.shape.pages ≡ 4) × IsReady table.now user job.now × (1 ≤ turns) × (turns ≤ MAX_TURNS) }
+            requires { MayTurn table.now turns × IsReady table.now user job.now }
             ensures { IsPlayed table.entry.now turns user job.exit.now }
         {
             // The place is the number of the job's seat.
@@ -102,9 +84,7 @@ fn collect_rounds<G: Gate>(
     requires table { table.now.shape.pages ≡ 4 }
     requires collect { Attends table.now collect.old }
     requires rounds { rounds ≤ MAX_TURNS }
-    ensures taken { length (known_by_collector collect.new).taken ≡ length (known_by_collector collect.old).taken + result }
-    ensures most { result ≤ 56 * rounds }
-    ensures looks { length (known_by_collector collect.new).looks ≡ length (known_by_collector collect.old).looks + 56 * rounds }
+    ensures rounds { CollectsRounds rounds (known_by_collector collect.old) (known_by_collector collect.new) result }
     ensures collect { Attends table.now collect.new }
 {
     let mut taken = 0;
@@ -124,30 +104,19 @@ pub(crate) fn run_beside<R: Threads + Sync, G: Gate + Sync>(
     jobs: &mut [UserJob],
     turns: u32,
 ) -> u64
-    requires table { table.now.shape.pages ≡ 4 }
+    requires turns { MayTurn table.now turns }
     requires collect { Attends table.now collect.old }
     requires some { 0 < length jobs.old }
     requires ready { AreReady table.now jobs.old }
-    requires some_turn { 1 ≤ turns }
-    requires most_turns { turns ≤ MAX_TURNS }
-    ensures taken { length (known_by_collector collect.new).taken ≡ length (known_by_collector collect.old).taken + result }
-    ensures most { result ≤ 56 * turns }
-    ensures looks { length (known_by_collector collect.new).looks ≡ length (known_by_collector collect.old).looks + 56 * turns }
+    ensures rounds { CollectsRounds turns (known_by_collector collect.old) (known_by_collector collect.new) result }
     ensures collect { Attends table.now collect.new }
     ensures played { ArePlayed table.now turns jobs.new }
 {
     let (taken, ()) = join_mut(
         rt,
-        &mut || -> u64
-            requires { (table.now.shape.pages ≡ 4) × Attends table.now collect.now × (turns ≤ MAX_TURNS) }
-            ensures taken { length (known_by_collector collect.exit.now).taken ≡ length (known_by_collector collect.entry.now).taken + result }
-            ensures most { result ≤ 56 * turns }
-            ensures looks { length (known_by_collector collect.exit.now).looks ≡ length (known_by_collector collect.entry.now).looks + 56 * turns }
-            ensures collect { Attends table.entry.now collect.exit.now }
-        { collect_rounds(gate, table, collect, turns) },
+        &mut || collect_rounds(gate, table, collect, turns),
         &mut ||
-            requires { (table.now.shape.pages ≡ 4) × (0 < length jobs.now) × AreReady table.now jobs.now × (1 ≤ turns) × (turns ≤ MAX_TURNS) }
-            ensures { ArePlayed table.entry.now turns jobs.exit.now }
+            requires { MayTurn table.now turns × (0 < length jobs.now) × AreReady table.now jobs.now }
         { play_users(rt, gate, table, jobs, turns) },
     );
     taken

@@ -1,11 +1,11 @@
 //! A whole run: a table is made, users and the collector run beside each other on threads, and the
 //! table is closed.
-ghost use Rattle.std.specs.Prelude.{◌≡◌, ℕ, ◌+◌, ◌*◌, ◌<◌, ◌≤◌, [], length, vec_len, vec_capacity, IfOk};
+ghost use Rattle.std.specs.Prelude.{◌≡◌, ◌*◌, ◌≤◌, length, IfOk};
 ghost use Rattle.layout_tuner.specs.Closed.{HasNewSeats};
 ghost use Rattle.layout_tuner.specs.Sits.{Attends, known_by_collector};
 ghost use Rattle.tune_run.specs.declared.turns.TheConstants.{MAX_TURNS};
 ghost use Rattle.tune_run.specs.Jobs.{AreReady, ArePlayed};
-ghost use Rattle.tune_run.specs.Told.{HaveTold, IsReport};
+ghost use Rattle.tune_run.specs.Told.{HasRoom, HaveTold, IsReport};
 
 use crate::counts::UserCounts;
 use crate::jobs::{UserJob, run_beside};
@@ -99,15 +99,11 @@ fn report(
     requires early { early ≤ 56 * MAX_TURNS }
     requires played { ArePlayed table turns jobs.items }
     requires many { length jobs.items ≡ table.shape.users }
-    requires counts { room.counts.items ≡ [] }
-    requires seats { room.seats.items ≡ [] }
-    requires counts_room { table.shape.users ≤ vec_capacity room.counts }
-    requires seats_room { table.shape.users ≤ vec_capacity room.seats }
+    requires room { HasRoom table.shape.users room }
     ensures { IsReport table.shape.users turns result }
 {
     let mut collect = collect;
-    let Room { counts, seats } = room;
-    let (counts, seats) = tell_all(&table, &mut collect, jobs, turns, counts, seats);
+    let (counts, seats) = tell_all(&table, &mut collect, jobs, turns, room);
     let late = table.collect(&mut collect);
     let words = table.close(seats, collect);
     TuneReport {
@@ -123,23 +119,21 @@ fn tell_all(
     collect: &mut CollectSeat,
     jobs: Vec<UserJob>,
     turns: u32,
-    counts: Vec<UserCounts>,
-    seats: Vec<TuneSeat>,
+    room: Room,
 ) -> (Vec<UserCounts>, Vec<TuneSeat>)
     requires collect { Attends table.now collect.old }
     requires played { ArePlayed table.now turns jobs.items }
-    requires counts { counts.items ≡ [] }
-    requires seats { seats.items ≡ [] }
-    requires counts_room { length jobs.items ≤ vec_capacity counts }
-    requires seats_room { length jobs.items ≤ vec_capacity seats }
+    requires room { HasRoom (length jobs.items) room }
     ensures told { HaveTold table.now turns (length jobs.items) (known_by_collector collect.new) result.0.items result.1.items }
     ensures taken { (known_by_collector collect.new).taken ≡ (known_by_collector collect.old).taken }
     ensures collect { Attends table.now collect.new }
 {
     // The turns are named for the proof alone.
     let _ = turns;
-    let mut counts = counts;
-    let mut seats = seats;
+    let Room {
+        mut counts,
+        mut seats,
+    } = room;
     for job in jobs {
         let UserJob {
             mut seat,

@@ -1,9 +1,10 @@
 //! The turns of one user.
-ghost use Rattle.std.specs.Prelude.{◌≡◌, ℕ, ◌+◌, ◌*◌, ◌%◌, ◌<◌, ◌≤◌, [], length};
+ghost use Rattle.std.specs.Prelude.{◌≡◌, ℕ, ◌+◌, ◌*◌, ◌%◌, ◌<◌, ◌≤◌, []};
 ghost use Rattle.layout_tuner.specs.Knows.{first_spots};
+ghost use Rattle.layout_tuner.specs.Retiling.{CanBePartitioned};
 ghost use Rattle.layout_tuner.specs.Sits.{Sits, known_by};
 ghost use Rattle.tune_run.specs.declared.turns.TheConstants.{MAX_TURNS};
-ghost use Rattle.tune_run.specs.Turns.{IsFree, DoesClaim, DoesRetile, DoesTurn, TakesTurns, retile_turns};
+ghost use Rattle.tune_run.specs.Turns.{MayTurn, IsFree, DoesClaim, DoesRetile, DoesTurn, TakesTurns, AddsUp};
 
 use crate::counts::{Deed, UserCounts};
 use layout_tuner::{TunePage, TuneSeat, TuneTable};
@@ -64,9 +65,7 @@ fn retile_turn<L: Ledger>(
 ) -> Deed
     requires seat { Sits table.now seat.old }
     requires free { IsFree (known_by seat.old) }
-    requires page { page < table.now.shape.pages }
-    requires least { 1 ≤ layout }
-    requires most { layout ≤ 5 }
+    requires page { CanBePartitioned table.now.shape page layout }
     ensures deed { DoesRetile page layout result (known_by seat.old) (known_by seat.new) }
     ensures seat { Sits table.now seat.new }
     ensures number { seat.new.number ≡ seat.old.number }
@@ -115,19 +114,12 @@ pub fn tune_turns<L: Ledger>(
     turns: u32,
     steps: &mut Steps<L>,
 ) -> UserCounts
-    requires table { table.now.shape.pages ≡ 4 }
+    requires turns { MayTurn table.now turns }
+    requires user { (1 ≤ user) × (user ≤ 8) }
     requires seat { Sits table.now seat.old }
     requires free { IsFree (known_by seat.old) }
-    requires some_user { 1 ≤ user }
-    requires most_users { user ≤ 8 }
-    requires some_turn { 1 ≤ turns }
-    requires most_turns { turns ≤ MAX_TURNS }
     ensures turns { TakesTurns table.now.shape.pages user turns (known_by seat.old) (known_by seat.new) result }
-    ensures completed { length (known_by seat.new).completed ≡ length (known_by seat.old).completed + result.claimed }
-    ensures retiled { length (known_by seat.new).retiled ≡ length (known_by seat.old).retiled + result.retiled }
-    ensures claims { result.claimed + result.none + retile_turns user turns ≡ turns }
-    ensures retiles { result.retiled + result.refused ≡ retile_turns user turns }
-    ensures free { IsFree (known_by seat.new) }
+    ensures sums { AddsUp user turns result (known_by seat.old) (known_by seat.new) }
     ensures seat { Sits table.now seat.new }
     ensures number { seat.new.number ≡ seat.old.number }
 {

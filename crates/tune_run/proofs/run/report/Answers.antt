@@ -18,10 +18,10 @@ returns c =
     let table = c.args.table in let made = c.tell_all-counts in let turns = c.args.turns in let collector = known_by_collector made.new.collect in
     let counts = made.result.0.items in let seats = made.result.1.items in let words = c.close-words.result.items in
     let told = subst (λ n. HaveTold table turns n collector counts seats) c.requires.many made.ensures.told in
-    let closed = c.close-words.ensures in
+    let closed = c.close-words.ensures.closed in
     record {
       many = told.counts_are;
-      pages = closed.pages ∙ c.requires.pages;
+      pages = c.close-words.ensures.pages ∙ c.requires.pages;
       counted = λ user below. let is = one_adds_up table turns collector counts seats user told below in record { claims = is.claims; retiles = is.retiles };
       taken = sym (all_claimed table turns collector counts seats told) ∙ (closed.all_taken
           ∙ (let more = c.collect-late.ensures.count in let same = ap length made.ensures.taken in let early = c.requires.taken in let late = c.from.ensures in omega (arith, more, same, early, late)));

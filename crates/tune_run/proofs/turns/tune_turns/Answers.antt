@@ -1,6 +1,6 @@
 use Rattle.std.proofs.Common.{◌≡◌, ◌+◌, ◌∙◌, suc, refl, subst, arith}
 use Rattle.layout_tuner.specs.Sits.{known_by}
-use Rattle.tune_run.specs.Turns.{TakesTurns, retile_turns}
+use Rattle.tune_run.specs.Turns.{TakesTurns, AddsUp}
 use Rattle.tune_run.proofs.Sums.{turns_add_up}
 use Rattle.tune_run.proofs.turns.tune_turns.Goals as goal
 
@@ -14,7 +14,7 @@ one_turn-deed-requires-clause-free t c =
 pub count-requires : goal.count-requires
 count-requires t c =
     let all = turns_add_up c.args.table.now.shape.pages c.args.user c.loop-turn.turn c.loop-turn.counts (known_by c.args.seat.now) (known_by c.loop-turn.seat) c.requires.free c.loop-turn.invariant.turns in
-    let claims = all.claims in let retiles = all.retiles in let below = c.loop-turn-test.true in let few = c.requires.most_turns in
+    let claims = all.claims in let retiles = all.retiles in let below = c.loop-turn-test.true in let few = c.requires.turns.most in
     omega (arith, claims, retiles, below, few)
 
 pub loop-turn-preserved : goal.loop-turn-preserved
@@ -28,29 +28,9 @@ loop-turn-preserved t c =
           (known_by c.loop-turn.seat, c.loop-turn.counts, c.one_turn-deed.result, invariant.turns, c.one_turn-deed.ensures.turn, c.count.ensures);
     }
 
-pub returns-clause-completed : goal.returns-clause-completed
-returns-clause-completed t c =
-    let all = turns_add_up c.args.table.now.shape.pages c.args.user c.loop-turn.turn c.loop-turn.counts (known_by c.args.seat.now) (known_by c.loop-turn.seat) c.requires.free c.loop-turn.invariant.turns in
-    all.leaves.completed_is
-
-pub returns-clause-retiled : goal.returns-clause-retiled
-returns-clause-retiled t c =
-    let all = turns_add_up c.args.table.now.shape.pages c.args.user c.loop-turn.turn c.loop-turn.counts (known_by c.args.seat.now) (known_by c.loop-turn.seat) c.requires.free c.loop-turn.invariant.turns in
-    all.leaves.retiled_is
-
-pub returns-clause-claims : goal.returns-clause-claims
-returns-clause-claims t c =
-    let all = turns_add_up c.args.table.now.shape.pages c.args.user c.loop-turn.turn c.loop-turn.counts (known_by c.args.seat.now) (known_by c.loop-turn.seat) c.requires.free c.loop-turn.invariant.turns in
+pub returns-clause-sums : goal.returns-clause-sums
+returns-clause-sums t c =
+    let old = known_by c.args.seat.now in let new = known_by c.loop-turn.seat in let counts = c.loop-turn.counts in
     let ended : c.loop-turn.turn ≡ c.args.turns = let past = c.loop-turn-test.false in let end = c.loop-turn.auto.turn-end in omega (arith, past, end) in
-    subst (λ n. c.loop-turn.counts.claimed + c.loop-turn.counts.none + retile_turns c.args.user n ≡ n) ended all.claims
-
-pub returns-clause-retiles : goal.returns-clause-retiles
-returns-clause-retiles t c =
-    let all = turns_add_up c.args.table.now.shape.pages c.args.user c.loop-turn.turn c.loop-turn.counts (known_by c.args.seat.now) (known_by c.loop-turn.seat) c.requires.free c.loop-turn.invariant.turns in
-    let ended : c.loop-turn.turn ≡ c.args.turns = let past = c.loop-turn-test.false in let end = c.loop-turn.auto.turn-end in omega (arith, past, end) in
-    subst (λ n. c.loop-turn.counts.retiled + c.loop-turn.counts.refused ≡ retile_turns c.args.user n) ended all.retiles
-
-pub returns-clause-free : goal.returns-clause-free
-returns-clause-free t c =
-    let all = turns_add_up c.args.table.now.shape.pages c.args.user c.loop-turn.turn c.loop-turn.counts (known_by c.args.seat.now) (known_by c.loop-turn.seat) c.requires.free c.loop-turn.invariant.turns in
-    all.leaves.free
+    subst (λ n. AddsUp c.args.user n counts old new) ended
+    (turns_add_up c.args.table.now.shape.pages c.args.user c.loop-turn.turn counts old new c.requires.free c.loop-turn.invariant.turns)
