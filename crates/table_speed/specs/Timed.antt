@@ -1,5 +1,5 @@
 -- The tables that are timed, and the seats of their writers before these have done anything.
-use Rattle.std.specs.Prelude.{◌≡◌, ℕ, ◌+◌, ◌<◌, ◌≤◌, Bool, if◌then◌else◌, List, length, Some, slice_get}
+use Rattle.std.specs.Prelude.{◌≡◌, ℕ, ◌+◌, ◌-◌, ◌<◌, ◌≤◌, Bool, if◌then◌else◌, List, length, Some, slice_get}
 use Rattle.trace_base.specs.declared.policy.WriterPolicy.TheVariants.{Drops}
 use Rattle.trace_base.specs.declared.policy.WriterSpec.{WriterSpec}
 use Rattle.chunk_plain.specs.Setup.{HasProducer, IsChunkOf, producer_of, from_of, range_of, spot}
@@ -28,6 +28,12 @@ pub record WritesFor (table : HostTable) (place producer : ℕ) : Type 0 where
 abbrev pub BeginAtNought : HostTable → Type 0
 BeginAtNought table = (place : ℕ) → place < 4 → from_of (setup_in table) place ≡ 0
 
+-- the table has a writer with this number, whose first id is 0
+pub record BeginsAtNought (table : HostTable) (writer : ℕ) : Type 0 where
+  pub least : 1 ≤ writer
+  pub most : writer ≤ length (setup_in table).writers
+  pub from_is : from_of (setup_in table) (writer - 1) ≡ 0
+
 -- four writers, each with a producer of its own or all with one
 pub record IsTimed (table : HostTable) (own : Bool) : Type 0 where
   pub writers : length (setup_in table).writers ≡ 4
@@ -41,6 +47,13 @@ pub record IsFresh (table : HostTable) (place : Place) : Type 0 where
   pub sits : Sits table place.seat
   pub fresh : known_by place.seat ≡ newcomer
   pub writes : WritesFor table place.seat.place place.producer
+
+-- and so are these four
+pub record AreFresh (table : HostTable) (first second third fourth : Place) : Type 0 where
+  pub first_is : IsFresh table first
+  pub second_is : IsFresh table second
+  pub third_is : IsFresh table third
+  pub fourth_is : IsFresh table fourth
 
 -- the seats of the first so many writers, which have done nothing
 pub record HasSeats (table : HostTable) (seats : List WriterSeat) : Type 0 where

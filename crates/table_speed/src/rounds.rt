@@ -1,13 +1,13 @@
 //! Rounds of one chunk on one thread: the writer claims, begins, publishes and completes it, and the
 //! service takes and releases it.
-ghost use Rattle.std.specs.Prelude.{◌≡◌, ◌+◌, ◌-◌, ◌<◌, ◌≤◌, length, IfSome, IfNone};
+ghost use Rattle.std.specs.Prelude.{◌≡◌, ◌-◌, ◌<◌, ◌≤◌, length, IfSome, IfNone};
 ghost use Rattle.chunk_plain.specs.declared.tokens.TheConstants.{POSITION_LIMIT};
-ghost use Rattle.chunk_plain.specs.Setup.{producer_of, from_of, spot, IsChunkOf};
+ghost use Rattle.chunk_plain.specs.Setup.{spot};
 ghost use Rattle.chunk_plain.specs.Words.{IsPublished};
 ghost use Rattle.chunk_words.specs.Sits.{Sits, Attends, setup_in, known_by};
-ghost use Rattle.table_speed.specs.Holding.{HoldsFresh};
+ghost use Rattle.table_speed.specs.Holding.{HasBegun, HoldsFresh, MayFill};
 ghost use Rattle.table_speed.specs.Taking.{HasTaken};
-ghost use Rattle.table_speed.specs.Timed.{IsFresh};
+ghost use Rattle.table_speed.specs.Timed.{BeginsAtNought, IsFresh};
 
 use crate::places::{Place, Tally, first_chunk, geometry, make, next_place};
 use crate::service::take_one;
@@ -21,15 +21,11 @@ const PAYLOAD: u32 = 284;
 
 /// None where the chunk was claimed.
 pub fn begin(host: &HostTable, seat: &mut WriterSeat, chunk: u32, position: u32) -> Option<Held>
-    requires seat { Sits host.now seat.old }
-    requires chunk { IsChunkOf (setup_in host.now) (producer_of (setup_in host.now) seat.old.place) chunk }
-    requires from { from_of (setup_in host.now) seat.old.place ≡ 0 }
+    requires seat { MayFill host.now seat.old chunk }
     requires position { position ≡ length (known_by seat.old).begun }
     requires few { position < POSITION_LIMIT }
     requires size { (spot (setup_in host.now) chunk).payload_size ≡ PAYLOAD }
-    ensures held { IfSome result (λ held. HoldsFresh host.now seat.new held) }
-    ensures chunk { IfSome result (λ held. held.chunk ≡ chunk) }
-    ensures more { IfSome result (λ _. length (known_by seat.new).begun ≡ position + 1) }
+    ensures held { IfSome result (λ held. HasBegun host.now seat.new chunk position held) }
     ensures none { IfNone result (length (known_by seat.new).begun ≡ position) }
     ensures seat { Sits host.now seat.new }
     ensures place { seat.new.place ≡ seat.old.place }
@@ -63,15 +59,11 @@ pub fn complete(host: &HostTable, seat: &mut WriterSeat, held: Held)
 
 /// The writer's way with a chunk that is free. It answers the writer's next position.
 fn fill(host: &HostTable, seat: &mut WriterSeat, chunk: u32, position: u32) -> u32
-    requires seat { Sits host.now seat.old }
-    requires chunk { IsChunkOf (setup_in host.now) (producer_of (setup_in host.now) seat.old.place) chunk }
-    requires from { from_of (setup_in host.now) seat.old.place ≡ 0 }
+    requires seat { MayFill host.now seat.old chunk }
     requires position { position ≡ length (known_by seat.old).begun }
     requires size { (spot (setup_in host.now) chunk).payload_size ≡ PAYLOAD }
     ensures next { result ≡ length (known_by seat.new).begun }
-    ensures seat { Sits host.now seat.new }
-    ensures chunk { IsChunkOf (setup_in host.now) (producer_of (setup_in host.now) seat.new.place) chunk }
-    ensures from { from_of (setup_in host.now) seat.new.place ≡ 0 }
+    ensures seat { MayFill host.now seat.new chunk }
 {
     if position == POSITION_LIMIT {
         return position;
@@ -89,9 +81,7 @@ fn fill(host: &HostTable, seat: &mut WriterSeat, chunk: u32, position: u32) -> u
 fn empty(host: &HostTable, seat: &mut ServiceSeat, chunk: u32, writer: u16, taken: u32) -> u32
     requires seat { Attends host.now seat.old }
     requires chunk { chunk < length (setup_in host.now).spots }
-    requires least { 1 ≤ writer }
-    requires most { writer ≤ length (setup_in host.now).writers }
-    requires from { from_of (setup_in host.now) (writer - 1) ≡ 0 }
+    requires writer { BeginsAtNought host.now writer }
     requires taken { HasTaken (writer - 1) taken seat.old }
     ensures seat { Attends host.now seat.new }
     ensures taken { HasTaken (writer - 1) result seat.new }

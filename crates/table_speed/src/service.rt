@@ -4,8 +4,7 @@ ghost use Rattle.std.specs.Prelude.{◌≡◌, ◌-◌, ◌<◌, ◌≤◌, [], 
 ghost use Rattle.chunk_words.specs.Knows.{service_of};
 ghost use Rattle.chunk_words.specs.Sits.{Attends, setup_in};
 ghost use Rattle.table_speed.specs.Taking.{HasTakenEach, HasTakenNone, TakesOne, TakesNone, count_of};
-ghost use Rattle.table_speed.specs.Timed.{IsTimed, BeginAtNought};
-ghost use Rattle.chunk_plain.specs.Setup.{from_of};
+ghost use Rattle.table_speed.specs.Timed.{IsTimed, BeginAtNought, BeginsAtNought};
 
 use chunk_words::{HostTable, ServiceSeat};
 use page_geometry::ChunkHeader;
@@ -26,9 +25,7 @@ pub fn take_one(
 ) -> Option<u16>
     requires seat { Attends host.now seat.old }
     requires chunk { chunk < length (setup_in host.now).spots }
-    requires least { 1 ≤ writer }
-    requires most { writer ≤ length (setup_in host.now).writers }
-    requires from { from_of (setup_in host.now) (writer - 1) ≡ 0 }
+    requires writer { BeginsAtNought host.now writer }
     requires position { position ≡ count_of seat.old (writer - 1) }
     requires none_out { (service_of seat.old.seat.me.0).reading ≡ [] }
     ensures seat { Attends host.now seat.new }

@@ -3,7 +3,7 @@ ghost use Rattle.std.specs.Prelude.{◌≡◌, ◌≤◌, length};
 ghost use Rattle.page_geometry.specs.Sizes.{payload_size};
 ghost use Rattle.chunk_words.specs.Sits.{Attends, setup_in};
 ghost use Rattle.table_speed.specs.Taking.{HasTakenNone};
-ghost use Rattle.table_speed.specs.Timed.{IsFresh, BeginAtNought};
+ghost use Rattle.table_speed.specs.Timed.{AreFresh, IsFresh, BeginAtNought};
 
 use crate::places::{Place, Tally, geometry, make, next_place};
 use crate::service::take_all;
@@ -52,10 +52,7 @@ fn write_four<R: Threads + Sync>(
     packets: u32,
     ended: &AtomicU64,
 ) -> Tally
-    requires first { IsFresh host.now places.0 }
-    requires second { IsFresh host.now places.1 }
-    requires third { IsFresh host.now places.2 }
-    requires fourth { IsFresh host.now places.3 }
+    requires places { AreFresh host.now places.0 places.1 places.2 places.3 }
     requires size { payload_size geometry.page_size geometry.chunks ≡ 284 }
 {
     let (first, second, third, fourth) = places;
@@ -77,10 +74,7 @@ fn run<R: Threads + Sync>(
     geometry: Geometry,
     packets: u32,
 ) -> Tally
-    requires first { IsFresh host.now places.0 }
-    requires second { IsFresh host.now places.1 }
-    requires third { IsFresh host.now places.2 }
-    requires fourth { IsFresh host.now places.3 }
+    requires places { AreFresh host.now places.0 places.1 places.2 places.3 }
     requires size { payload_size geometry.page_size geometry.chunks ≡ 284 }
     requires service { Attends host.now service }
     requires taken { HasTakenNone service }
@@ -94,8 +88,7 @@ fn run<R: Threads + Sync>(
         rt,
         || take_all(host, service, &ended),
         ||
-            requires { IsFresh host.now first × IsFresh host.now second × IsFresh host.now third × IsFresh host.now fourth
-                × (payload_size geometry.page_size geometry.chunks ≡ 284) }
+            requires { AreFresh host.now first second third fourth × (payload_size geometry.page_size geometry.chunks ≡ 284) }
         {
             let places = (first, second, third, fourth);
             write_four(rt, host, places, geometry, packets, &ended)

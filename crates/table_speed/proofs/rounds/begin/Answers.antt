@@ -1,4 +1,5 @@
-use Rattle.std.proofs.Common.{◌≡◌, ◌∙◌, ℕ, refl, ap, length, subst, sym}
+use Rattle.std.proofs.Common.{rules, ◌≡◌, ◌∙◌, ℕ, refl, ap, length, subst, sym, arith}
+use Rattle.std.proofs.lemmas.List.{length-append}
 use Rattle.chunk_plain.specs.Setup.{spot, from_of}
 use Rattle.chunk_plain.specs.Views.{WriterView}
 use Rattle.chunk_plain.specs.Words.{HasClaimed}
@@ -17,14 +18,22 @@ begin-requires-clause-claimed c =
 pub returns-clause-held : goal.returns-clause-held
 returns-clause-held c =
     let won = c.in_ok-claimed.ensures.won in
-    just_begun c.args.host.now (known_by c.claim_try.new.seat) c.begin.new.seat c.in_ok-claimed.claimed.chunk (length (known_by c.claim_try.new.seat).begun) c.begin.result c.begin.ensures.seat
-    refl (subst (λ k. (spot (setup_in c.args.host.now) k).payload_size ≡ 284) (sym c.in_ok-claimed.ensures.chunk) c.requires.size)
-    c.begin.ensures.held c.begin.ensures.view
+    record {
+      holds = just_begun c.args.host.now (known_by c.claim_try.new.seat) c.begin.new.seat c.in_ok-claimed.claimed.chunk (length (known_by c.claim_try.new.seat).begun) c.begin.result
+          c.begin.ensures.seat refl
+          (subst (λ k. (spot (setup_in c.args.host.now) k).payload_size ≡ 284) (sym c.in_ok-claimed.ensures.chunk) c.requires.size)
+          c.begin.ensures.held c.begin.ensures.view;
+      chunk_is = search rules;
+      more =
+          let before = ap (λ (v : WriterView). length v.begun) won.view in let now = ap (λ (v : WriterView). length v.begun) c.begin.ensures.view.view in
+          let position = c.requires.position in
+          now ∙ simp length-append (omega (arith, before, position));
+    }
 
 pub begin-requires-clause-id : goal.begin-requires-clause-id
 begin-requires-clause-id c =
     let won = c.in_ok-claimed.ensures.won in
     let setup = setup_in c.args.host.now in
     let count : ℕ = length (known_by c.claim_try.new.seat).begun in
-    let from_is = ap (from_of setup) c.in_ok-claimed.ensures.place ∙ c.requires.from in
+    let from_is = ap (from_of setup) c.in_ok-claimed.ensures.place ∙ c.requires.seat.from_is in
     c.id_of.ensures ∙ ap (id_of 0) (c.requires.position ∙ sym (ap (λ (v : WriterView). length v.begun) won.view)) ∙ ap (λ (f : ℕ). id_of f count) (sym from_is)
