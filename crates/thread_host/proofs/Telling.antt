@@ -184,11 +184,6 @@ locked_tells setup core number limit old new passed pass before after first same
 
 -- ---- where a write failed
 
--- what holds anyway
-pub on_err : {A E P : Type 0} (result : Result A E) → P → OnErr result P
-on_err (Ok value) holds = tt
-on_err (Err fault) holds = holds
-
 some_read : (firsts : List model.Event) (event : model.Event) → firsts ++ event ∷ [] ≡ [] → ⊥
 some_read firsts event none =
     let long = ap (λ (es : List model.Event). length es) none in

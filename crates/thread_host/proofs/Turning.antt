@@ -1,6 +1,6 @@
 -- The turns of the service's own lines, one behind the other.
-use Rattle.std.proofs.Common.{◌≡◌, ◌∙◌, ◌⊎◌, ℕ, zero, suc, ◌+◌, Bool, true, false, Result, Ok, Err, OnOk, OnErr, List, [], ◌∷◌, ◌++◌, length, take, refl, sym, ap, subst, inl, inr, arith}
-use Rattle.std.specs.Prelude.{cond, if◌then◌else◌}
+use Rattle.std.proofs.Common.{◌≡◌, ◌∙◌, ◌⊎◌, ℕ, zero, suc, ◌+◌, Bool, true, false, Result, Ok, Err, List, [], ◌∷◌, ◌++◌, length, take, refl, sym, ap, subst, inl, inr, arith}
+use Rattle.std.specs.Prelude.{MatchResult, cond, if◌then◌else◌}
 use Rattle.std.specs.List.{flat_map}
 use Rattle.std.proofs.lemmas.List.Elements.{filter-append}
 use Rattle.std.proofs.Math.Logic.{∥∥₁_map}
@@ -22,6 +22,7 @@ use Rattle.run_model.specs.Lines.{ComesBetween, PlaysAll, PlaysLine, PlaysLines,
 use Rattle.run_model.specs.Reads.{ReadsUpTo}
 use Rattle.run_model.proofs.LineLemmas.{plays_between, plays_more, stopped_between}
 use Rattle.thread_host.specs.Growing.{IsHearing}
+use Rattle.thread_host.specs.Terms.{PlaysFar}
 use Rattle.thread_host.specs.Turns.{IsNext, PlaysTurns}
 
 -- no even number is odd
@@ -163,17 +164,11 @@ module _ (setup : Setup) (first : List Buffer) (scenario : List NumberedLine) wh
       by_case (inr some) = some.2
 
 -- by how the job ended
-pub ended_all : {A E : Type 0} (setup : Setup) (first : List Buffer) (scenario : List NumberedLine) (turns : ℕ) (old new : ServiceView) (result : Result A E)
-    → OnOk result (turns ≡ length (service_lines scenario) + length (service_lines scenario)) → PlaysTurns setup first scenario turns old new
-    → OnOk result (PlaysAll setup first scenario old new)
-ended_all setup first scenario turns old new (Ok value) is played = turns_all setup first scenario turns old new is played
-ended_all setup first scenario turns old new (Err fault) is played = tt
-
-pub ended_some : {A E : Type 0} (setup : Setup) (first : List Buffer) (scenario : List NumberedLine) (turns : ℕ) (old new : ServiceView) (result : Result A E)
-    → OnErr result ((done : ℕ) × (turns ≡ suc (done + done))) → PlaysTurns setup first scenario turns old new
-    → OnErr result (PlaysSome setup first scenario old new)
-ended_some setup first scenario turns old new (Ok value) is played = tt
-ended_some setup first scenario turns old new (Err fault) is played = turns_some setup first scenario turns is.0 old new is.1 played
+pub ended_far : {A E : Type 0} (setup : Setup) (first : List Buffer) (scenario : List NumberedLine) (turns : ℕ) (old new : ServiceView) (result : Result A E)
+    → MatchResult result (λ _. turns ≡ length (service_lines scenario) + length (service_lines scenario)) (λ _. (done : ℕ) × (turns ≡ suc (done + done)))
+    → PlaysTurns setup first scenario turns old new → PlaysFar setup first scenario old new result
+ended_far setup first scenario turns old new (Ok value) is played = turns_all setup first scenario turns old new is played
+ended_far setup first scenario turns old new (Err fault) is played = turns_some setup first scenario turns is.0 old new is.1 played
 
 -- an answer of each writer comes behind all lines, or behind those that were played
 pub all_heard : (setup : Setup) (first : List Buffer) (scenario : List NumberedLine) (writers : ℕ) (old mid new : ServiceView) → IsHearing writers mid new

@@ -6,6 +6,7 @@ pub mod Turns
 pub mod Ending
 pub mod Counting
 pub mod Hosts
+pub mod Terms
 pub mod Making
 pub mod Playing
 pub mod Finishing

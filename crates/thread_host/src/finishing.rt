@@ -1,5 +1,5 @@
 //! The end of a run: all sequences are closed, all buffers read, and all is counted.
-ghost use Rattle.std.specs.Prelude.{◌≡◌, ℕ, ◌<◌, ◌≤◌, length, map, slice_index_or, IfOk, OnErr, OnOk};
+ghost use Rattle.std.specs.Prelude.{◌≡◌, ℕ, ◌<◌, ◌≤◌, length, map, slice_index_or, IfOk, MatchResult, OnErr, OnOk};
 ghost use Rattle.byte_io.specs.Bytes.{CountsFaults};
 ghost use Rattle.trace_base.specs.declared.limits.TheConstants.{MAX_BUFFERS};
 ghost use Rattle.trace_buffer.specs.Answers as answers;
@@ -8,9 +8,8 @@ ghost use Rattle.chunk_words.specs.Closed.{HasAllSeats, IsAccount, AllTaken, vie
 ghost use Rattle.chunk_words.specs.GoesOn.{GoesOn};
 ghost use Rattle.chunk_words.specs.Sits.{Passes, setup_in, known_by_pass};
 ghost use Rattle.scenario_text.specs.Scenario.{Parts};
-ghost use Rattle.service_core.specs.Agreement.{KeepsRest, first_of};
+ghost use Rattle.service_core.specs.Agreement.{first_of};
 ghost use Rattle.run_model.specs.Settled.{ClosesTo};
-ghost use Rattle.thread_service.specs.Reading.{IsKnownWhole};
 ghost use Rattle.thread_service.specs.Serving.{core_of, view_in, desk_in, Serves, IsServing};
 ghost use Rattle.thread_host.specs.Counting.{buffers_in, packets_in};
 ghost use Rattle.thread_host.specs.Ending.{no_counts};
@@ -18,6 +17,7 @@ ghost use Rattle.thread_host.specs.Finishing.{AreClosedTo, ReadsOut, FailsOut, H
 ghost use Rattle.thread_host.specs.Hosts.{IsSettled};
 ghost use Rattle.thread_host.specs.Jobs.{KeepsLoans};
 ghost use Rattle.thread_host.specs.Keeping.{AllOpen};
+ghost use Rattle.thread_host.specs.Terms.{KnowsWhole, LeavesSink, StaysServing};
 
 use crate::settled::Settled;
 use byte_io::put::WriteFault;
@@ -111,22 +111,17 @@ fn read_all<T: Sink>(
     out: &mut T,
 ) -> Result<(), WriteFault>
     requires serves { Serves table.now service.old }
-    requires pass { Passes table.now pass.old }
-    requires known { IsKnownWhole (known_by_pass pass.old) }
+    requires pass { KnowsWhole table.now pass.old }
     requires few { buffers ≤ MAX_BUFFERS }
     requires may { T.may_write out.old }
-    ensures serves { Serves table.now service.new }
-    ensures pass { Passes table.now pass.new }
-    ensures known { IsKnownWhole (known_by_pass pass.new) }
-    ensures keeps { KeepsRest (setup_in table.now) (core_of service.old) (core_of service.new) }
-    ensures marks { (desk_in service.new).marks ≡ (desk_in service.old).marks }
-    ensures reads { IfOk result (λ _. ReadsOut (setup_in table.now) (first_of (setup_in table.now) (core_of service.old)) buffers
+    ensures stays { StaysServing table.now service.old service.new }
+    ensures pass { KnowsWhole table.now pass.new }
+    ensures reads { MatchResult result
+        (λ _. ReadsOut (setup_in table.now) (first_of (setup_in table.now) (core_of service.old)) buffers
+        (view_in service.old) (view_in service.new) (known_by_pass pass.old) (known_by_pass pass.new) (T.taken out.old) (T.taken out.new))
+        (λ _. FailsOut (setup_in table.now) (first_of (setup_in table.now) (core_of service.old)) buffers
         (view_in service.old) (view_in service.new) (known_by_pass pass.old) (known_by_pass pass.new) (T.taken out.old) (T.taken out.new)) }
-    ensures fails { OnErr result (FailsOut (setup_in table.now) (first_of (setup_in table.now) (core_of service.old)) buffers
-        (view_in service.old) (view_in service.new) (known_by_pass pass.old) (known_by_pass pass.new) (T.taken out.old) (T.taken out.new)) }
-    ensures stands { KeepsLoans (T.taken out.old) (T.taken out.new) }
-    ensures count { CountsFaults (T.faults out.old) (T.faults out.new) result }
-    ensures goes_on { OnOk result (T.may_write out.new) }
+    ensures sink { LeavesSink (T.taken out.old) (T.taken out.new) (T.faults out.old) (T.faults out.new) (T.may_write out.new) result }
 {
     'buffers: for index in 0..buffers {
         service.read_passing(table, pass, index as u8 + 1, u64::MAX, out)?;

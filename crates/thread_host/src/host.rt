@@ -1,6 +1,5 @@
 //! What runs a scenario on threads.
-ghost use Rattle.std.specs.Prelude.{◌≡◌, ℕ, [], ◌∷◌, IfSome, IsSomeAnd, IfOk, OnErr, OnOk};
-ghost use Rattle.byte_io.specs.Bytes.{CountsFaults};
+ghost use Rattle.std.specs.Prelude.{◌≡◌, [], ◌∷◌, IsSomeAnd, IfOk};
 ghost use Rattle.trace_model.specs.Calls.{Flushed};
 ghost use Rattle.chunk_plain.specs.Plain.{first_world};
 ghost use Rattle.chunk_plain.specs.Views.{asked_in};
@@ -8,12 +7,9 @@ ghost use Rattle.chunk_words.specs.Sits.{setup_in, known_by_pass};
 ghost use Rattle.scenario_text.specs.Raws.{RawsNone};
 ghost use Rattle.scenario_text.specs.Scenario.{IsScenario, parts_of};
 ghost use Rattle.replay_model.specs.Played.{buffers_of};
-ghost use Rattle.run_model.specs.Lines.{PlaysAll, PlaysSome};
-ghost use Rattle.run_model.specs.Settled.{last_flushes};
 ghost use Rattle.thread_service.specs.Serving.{view_in};
-ghost use Rattle.thread_host.specs.Growing.{Grows};
-ghost use Rattle.thread_host.specs.Hosts.{IsHost, AreReady, HaveAnswered, HavePlayed, ClosesNone};
-ghost use Rattle.thread_host.specs.Jobs.{KeepsLoans, FailsLines, TellsLines};
+ghost use Rattle.thread_host.specs.Hosts.{IsHost, AreReady, HavePlayed, ClosesNone};
+ghost use Rattle.thread_host.specs.Terms.{HaveRun, PlaysJob, ServiceRuns, StaysHost};
 
 use crate::answering::answer_all;
 use crate::making::fill_writers;
@@ -114,25 +110,13 @@ impl Host {
         requires writers { AreReady scenario.now.lines self.old.table writers.old.items }
         requires unasked { asked_in (known_by_pass self.old.pass).letters ≡ 0 }
         requires may { T.may_write out.old }
-        ensures host { IsHost (parts_of scenario.now) self.new }
-        ensures table { self.new.table ≡ self.old.table }
-        ensures grows { IfSome self.old.service (λ before. IfSome self.new.service (λ after.
-            Grows (setup_in self.old.table) scenario.now.lines (view_in before) (view_in after))) }
-        ensures lines { OnOk result (IfSome self.old.service (λ before. IfSome self.new.service (λ after.
-            PlaysAll (setup_in self.old.table) (buffers_of (parts_of scenario.now) (setup_in self.old.table)) scenario.now.lines
-            (view_in before) (view_in after)))) }
-        ensures stopped { OnErr result (IfSome self.old.service (λ before. IfSome self.new.service (λ after.
-            PlaysSome (setup_in self.old.table) (buffers_of (parts_of scenario.now) (setup_in self.old.table)) scenario.now.lines
-            (view_in before) (view_in after)))) }
-        ensures played { HavePlayed scenario.now.lines last_flushes self.new.table writers.new.items }
-        ensures answered { HaveAnswered (asked_in (known_by_pass self.new.pass).letters) writers.new.items }
-        ensures told { OnOk result (TellsLines (setup_in self.old.table) (buffers_of (parts_of scenario.now) (setup_in self.old.table))
-            scenario.now.lines (known_by_pass self.old.pass) (known_by_pass self.new.pass) (T.taken out.old) (T.taken out.new)) }
-        ensures fails { OnErr result (FailsLines (setup_in self.old.table) (buffers_of (parts_of scenario.now) (setup_in self.old.table))
-            scenario.now.lines (known_by_pass self.old.pass) (known_by_pass self.new.pass) (T.taken out.old) (T.taken out.new)) }
-        ensures stands { KeepsLoans (T.taken out.old) (T.taken out.new) }
-        ensures count { CountsFaults (T.faults out.old) (T.faults out.new) result }
-        ensures goes_on { OnOk result (T.may_write out.new) }
+        ensures host { StaysHost (parts_of scenario.now) self.old self.new }
+        ensures service { ServiceRuns (setup_in self.old.table) (buffers_of (parts_of scenario.now) (setup_in self.old.table)) scenario.now.lines
+            self.old.service self.new.service result }
+        ensures writers { HaveRun scenario.now.lines self.new.table (asked_in (known_by_pass self.new.pass).letters) writers.new.items }
+        ensures job { PlaysJob (setup_in self.old.table) (buffers_of (parts_of scenario.now) (setup_in self.old.table)) scenario.now.lines self.old.table
+            (record { pass = self.old.pass; taken = T.taken out.old; faults = T.faults out.old })
+            (record { pass = self.new.pass; taken = T.taken out.new; faults = T.faults out.new }) (T.may_write out.new) result }
     {
         let told = self.run_jobs(rt, scenario, writers, out, gate);
         answer_all(&self.table, &mut self.pass, writers.as_mut_slice());
@@ -152,24 +136,13 @@ impl Host {
         requires writers { AreReady scenario.now.lines self.old.table writers.old.items }
         requires unasked { asked_in (known_by_pass self.old.pass).letters ≡ 0 }
         requires may { T.may_write out.old }
-        ensures host { IsHost (parts_of scenario.now) self.new }
-        ensures table { self.new.table ≡ self.old.table }
-        ensures grows { IfSome self.old.service (λ before. IfSome self.new.service (λ after.
-            Grows (setup_in self.old.table) scenario.now.lines (view_in before) (view_in after))) }
-        ensures lines { OnOk result (IfSome self.old.service (λ before. IfSome self.new.service (λ after.
-            PlaysAll (setup_in self.old.table) (buffers_of (parts_of scenario.now) (setup_in self.old.table)) scenario.now.lines
-            (view_in before) (view_in after)))) }
-        ensures stopped { OnErr result (IfSome self.old.service (λ before. IfSome self.new.service (λ after.
-            PlaysSome (setup_in self.old.table) (buffers_of (parts_of scenario.now) (setup_in self.old.table)) scenario.now.lines
-            (view_in before) (view_in after)))) }
+        ensures host { StaysHost (parts_of scenario.now) self.old self.new }
+        ensures service { ServiceRuns (setup_in self.old.table) (buffers_of (parts_of scenario.now) (setup_in self.old.table)) scenario.now.lines
+            self.old.service self.new.service result }
         ensures played { HavePlayed scenario.now.lines (Flushed ∷ []) self.new.table writers.new.items }
-        ensures told { OnOk result (TellsLines (setup_in self.old.table) (buffers_of (parts_of scenario.now) (setup_in self.old.table))
-            scenario.now.lines (known_by_pass self.old.pass) (known_by_pass self.new.pass) (T.taken out.old) (T.taken out.new)) }
-        ensures fails { OnErr result (FailsLines (setup_in self.old.table) (buffers_of (parts_of scenario.now) (setup_in self.old.table))
-            scenario.now.lines (known_by_pass self.old.pass) (known_by_pass self.new.pass) (T.taken out.old) (T.taken out.new)) }
-        ensures stands { KeepsLoans (T.taken out.old) (T.taken out.new) }
-        ensures count { CountsFaults (T.faults out.old) (T.faults out.new) result }
-        ensures goes_on { OnOk result (T.may_write out.new) }
+        ensures job { PlaysJob (setup_in self.old.table) (buffers_of (parts_of scenario.now) (setup_in self.old.table)) scenario.now.lines self.old.table
+            (record { pass = self.old.pass; taken = T.taken out.old; faults = T.faults out.old })
+            (record { pass = self.new.pass; taken = T.taken out.new; faults = T.faults out.new }) (T.may_write out.new) result }
     {
         let Some(service) = self.service.take() else {
             unreachable!()

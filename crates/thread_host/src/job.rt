@@ -1,19 +1,11 @@
 //! The service's own job of a run.
-ghost use Rattle.std.specs.Prelude.{◌≡◌, ℕ, suc, ◌+◌, ◌<◌, true, length, IfOk, OnErr, OnOk, if◌then◌else◌};
-ghost use Rattle.byte_io.specs.Bytes.{CountsFaults};
-ghost use Rattle.chunk_plain.specs.Views.{asked_in};
-ghost use Rattle.chunk_words.specs.Sits.{Passes, known_by_pass};
-ghost use Rattle.replay_host.specs.Lines.{MOST_REQUESTS};
-ghost use Rattle.replay_model.specs.Flushes.{requests_in};
-ghost use Rattle.scenario_text.specs.declared.scenario.LineKind.TheVariants as line_kinds;
-ghost use Rattle.run_model.specs.Collected.{may_be_collected};
+ghost use Rattle.std.specs.Prelude.{◌≡◌, ℕ, suc, ◌+◌, length, MatchResult, OnOk, if◌then◌else◌};
+ghost use Rattle.chunk_words.specs.Sits.{known_by_pass};
 ghost use Rattle.run_model.specs.Lines as own;
 ghost use Rattle.run_model.specs.Lines.{service_lines};
-ghost use Rattle.run_model.specs.Scraped.{is_scraped_by};
-ghost use Rattle.thread_service.specs.Reading.{IsKnownWhole};
-ghost use Rattle.thread_host.specs.Keeping.{IsNamed, IsWhole};
-ghost use Rattle.thread_host.specs.Jobs.{KeepsLoans, FailsLine, FailsLines, TellsLine, TellsLines};
-ghost use Rattle.thread_host.specs.Turns.{IsNext};
+ghost use Rattle.thread_host.specs.Keeping.{IsNamed};
+ghost use Rattle.thread_host.specs.Jobs.{FailsLine, TellsLine};
+ghost use Rattle.thread_host.specs.Terms.{KnowsWhole, LeavesSink, MayPlay, MayPlayLine, PlaysJob};
 
 use crate::locked::{Locked, Readings, Turns};
 use crate::name::HostName;
@@ -38,26 +30,14 @@ pub fn service_job<N: HostName, R: Wait, G: Gate, O: Sink, K: Ledger>(
     turns: &mut Turns<N>,
     readings: &mut Readings<K>,
 ) -> Result<(), WriteFault>
-    requires ledger { IsWhole N.parts N.all }
-    requires table { IsNamed N.table N.setup table.now }
-    requires lines { lines.now ≡ N.lines }
+    requires plays { MayPlay N.parts N.all N.table N.setup N.lines table.now lines.now pass.old }
     requires first { turns.old ≡ 0 }
-    requires none_asked { asked_in (known_by_pass pass.old).letters ≡ 0 }
-    requires few { requests_in N.lines < MOST_REQUESTS }
-    requires pass { Passes table.now pass.old }
-    requires known { IsKnownWhole (known_by_pass pass.old) }
     requires may { O.may_write out.old }
-    ensures pass { Passes table.now pass.new }
-    ensures known { IsKnownWhole (known_by_pass pass.new) }
-    ensures told { IfOk result (λ _. TellsLines N.setup N.first lines.now (known_by_pass pass.old) (known_by_pass pass.new)
-        (O.taken out.old) (O.taken out.new)) }
-    ensures fails { OnErr result (FailsLines N.setup N.first lines.now (known_by_pass pass.old) (known_by_pass pass.new)
-        (O.taken out.old) (O.taken out.new)) }
-    ensures stands { KeepsLoans (O.taken out.old) (O.taken out.new) }
-    ensures count { CountsFaults (O.faults out.old) (O.faults out.new) result }
-    ensures goes_on { OnOk result (O.may_write out.new) }
-    ensures turns { OnOk result (turns.new ≡ length (service_lines lines.now) + length (service_lines lines.now)) }
-    ensures last { OnErr result ((done : ℕ) × (turns.new ≡ suc (done + done))) }
+    ensures job { PlaysJob N.setup N.first lines.now table.now
+        (record { pass = pass.old; taken = O.taken out.old; faults = O.faults out.old })
+        (record { pass = pass.new; taken = O.taken out.new; faults = O.faults out.new }) (O.may_write out.new) result }
+    ensures turns { MatchResult result (λ _. turns.new ≡ length (service_lines lines.now) + length (service_lines lines.now))
+        (λ _. (done : ℕ) × (turns.new ≡ suc (done + done))) }
     ensures reads { OnOk result (readings.new ≡ readings.old + length (service_lines lines.now)) }
 {
     // There are never so many lines that the number stands still.
@@ -120,27 +100,17 @@ fn play_line<N: HostName, R: Wait, O: Sink>(
     out: &mut O,
     turns: &mut Turns<N>,
 ) -> Result<(), WriteFault>
-    requires ledger { IsWhole N.parts N.all }
+    requires line { MayPlayLine N.parts N.all N.setup N.lines turns.old line.now pass.old }
     requires table { IsNamed N.table N.setup table.now }
-    requires collected { (producer : ℕ) → line.now ≡ line_kinds.Collect producer → may_be_collected N.setup N.lines producer ≡ true }
-    requires scraped { (producer : ℕ) → line.now ≡ line_kinds.Scrape producer → is_scraped_by N.lines producer ≡ true }
-    requires next { own.is_service_line line.now ≡ true → IsNext N.lines turns.old line.now }
-    requires room { line.now ≡ line_kinds.Request → asked_in (known_by_pass pass.old).letters < requests_in N.lines }
-    requires few { requests_in N.lines < MOST_REQUESTS }
-    requires pass { Passes table.now pass.old }
-    requires known { IsKnownWhole (known_by_pass pass.old) }
+    requires pass { KnowsWhole table.now pass.old }
     requires may { O.may_write out.old }
-    ensures pass { Passes table.now pass.new }
-    ensures known { IsKnownWhole (known_by_pass pass.new) }
-    ensures told { IfOk result (λ _. TellsLine N.setup N.first line.now (known_by_pass pass.old) (known_by_pass pass.new)
-        (O.taken out.old) (O.taken out.new)) }
-    ensures fails { OnErr result (FailsLine N.setup N.first line.now (known_by_pass pass.old) (known_by_pass pass.new)
-        (O.taken out.old) (O.taken out.new)) }
-    ensures stands { KeepsLoans (O.taken out.old) (O.taken out.new) }
-    ensures count { CountsFaults (O.faults out.old) (O.faults out.new) result }
-    ensures goes_on { OnOk result (O.may_write out.new) }
-    ensures turns { OnOk result (turns.new ≡ turns.old + (if own.is_service_line line.now then 2 else 0)) }
-    ensures last { OnErr result (turns.new ≡ turns.old + 1) }
+    ensures pass { KnowsWhole table.now pass.new }
+    ensures told { MatchResult result
+        (λ _. TellsLine N.setup N.first line.now (known_by_pass pass.old) (known_by_pass pass.new) (O.taken out.old) (O.taken out.new))
+        (λ _. FailsLine N.setup N.first line.now (known_by_pass pass.old) (known_by_pass pass.new) (O.taken out.old) (O.taken out.new)) }
+    ensures sink { LeavesSink (O.taken out.old) (O.taken out.new) (O.faults out.old) (O.faults out.new) (O.may_write out.new) result }
+    ensures turns { MatchResult result (λ _. turns.new ≡ turns.old + (if own.is_service_line line.now then 2 else 0))
+        (λ _. turns.new ≡ turns.old + 1) }
 {
     match line {
         LineKind::Collect { producer } => {

@@ -1,28 +1,24 @@
 //! The service behind a lock, the turns of its own lines, and how often it was asked there to take chunks and
 //! to read answers.
-ghost use Rattle.std.specs.Prelude.{◌≡◌, ◌+◌, ◌<◌, ◌≤◌, true, List, length, IfOk, OnErr, OnOk};
-ghost use Rattle.byte_io.specs.Bytes.{CountsFaults, Intake};
-ghost use Rattle.trace_model.specs.History as model;
+ghost use Rattle.std.specs.Prelude.{◌≡◌, ◌+◌, ◌≤◌, true, length, MatchResult};
 ghost use Rattle.chunk_plain.specs.Views.{asked_in};
-ghost use Rattle.chunk_words.specs.Knows.{Away, with_stage};
-ghost use Rattle.chunk_words.specs.Sits.{Passes, known_by_pass};
+ghost use Rattle.chunk_words.specs.Sits.{known_by_pass};
 ghost use Rattle.scenario_text.specs.declared.scenario.LineKind.TheVariants as line;
-ghost use Rattle.replay_host.specs.Lines.{MOST_REQUESTS};
 ghost use Rattle.replay_model.specs.Flushes.{requests_in};
 ghost use Rattle.service_core.specs.Agreement.{KeepsRest, KeepsTaking};
-ghost use Rattle.service_core.specs.Reading.{NotesReads, ReadsAll, FailsAmong};
+ghost use Rattle.service_core.specs.Reading.{ReadsAll, FailsAmong};
 ghost use Rattle.service_core.specs.Scraping.{TakesAndScrapes};
 ghost use Rattle.service_core.specs.Taking.{Takes, places_of};
 ghost use Rattle.run_model.specs.Collected.{has_asker, may_be_collected};
 ghost use Rattle.run_model.specs.Scraped.{is_scraped_by};
-ghost use Rattle.thread_service.specs.Reading.{IsKnownWhole, PassReads};
 ghost use Rattle.thread_service.specs.Serving.{core_of, view_in, desk_in};
-ghost use Rattle.thread_host.specs.Growing.{Grows, IsHearing, IsRequesting};
+ghost use Rattle.thread_host.specs.Growing.{Grows, IsHearing};
 ghost use Rattle.thread_host.specs.Jobs.{FailsLine, TellsLine};
 ghost use Rattle.thread_host.specs.Keeping.{IsNamed, IsWhole, ServesNamed, AllOpen, BeganWith, IsStarted, HasOwn};
 ghost use Rattle.thread_host.specs.Keeping.{serves_named_prop, began_prop, started_prop, own_prop};
 ghost use Rattle.thread_host.specs.Tally.{IsTally, KeepsAnswers, KeepsSession, answers_prop, tally_prop};
-ghost use Rattle.thread_host.specs.Turns.{IsNext, PlaysTurns};
+ghost use Rattle.thread_host.specs.Terms.{EndsTurn, HasRequested, HasTurn, IsBlankOf, IsKept, KnowsWhole, MayRequest, ReadsWith};
+ghost use Rattle.thread_host.specs.Turns.{PlaysTurns};
 
 use crate::name::HostName;
 use crate::reading::read_answers;
@@ -54,9 +50,7 @@ impl<L: Ledger> Model for Takings<L> {
 impl<L: Ledger> Takings<L> {
     /// None yet, on a ledger of its own.
     pub fn new(blank: Blank) -> Self
-        requires name { blank.name ≡ L.name }
-        requires parts { blank.parts ≡ L.parts }
-        requires some_part { 0 < L.parts }
+        requires { IsBlankOf L.name L.parts blank }
         ensures { result ≡ 0 }
     {
         let steps = Steps::new(blank);
@@ -117,9 +111,7 @@ impl<L: Ledger> Model for Readings<L> {
 impl<L: Ledger> Readings<L> {
     /// None yet, on a ledger of its own.
     pub fn new(blank: Blank) -> Self
-        requires name { blank.name ≡ L.name }
-        requires parts { blank.parts ≡ L.parts }
-        requires some_part { 0 < L.parts }
+        requires { IsBlankOf L.name L.parts blank }
         ensures { result ≡ 0 }
     {
         let steps = Steps::new(blank);
@@ -162,16 +154,8 @@ pub struct Locked<N: HostName> {
 
 impl<N: HostName> Locked<N> {
     pub fn new(service: Service, tally: Tally, book: Book<N>) -> Locked<N>
-        requires serves { ServesNamed N.table N.setup service }
-        requires open { AllOpen N.setup service }
-        requires began { BeganWith N.setup N.first service }
-        requires own { HasOwn service }
-        requires grows { Grows N.setup N.lines N.start (view_in service) }
+        requires service { IsKept N.table N.setup N.first N.lines N.start service tally }
         requires played { PlaysTurns N.setup N.first N.lines book.total N.start (view_in service) }
-        requires started { IsStarted service }
-        requires few { asked_in (view_in service).letters ≤ requests_in N.lines }
-        requires tallied { IsTally (requests_in N.lines) (length N.setup.writers) (view_in service).letters tally }
-        requires kept { KeepsAnswers (length N.setup.writers) (view_in service).letters (core_of service).session }
         ensures service { result.service ≡ service }
     {
         Locked {
@@ -186,16 +170,8 @@ impl<N: HostName> Locked<N> {
     pub fn into_parts(self, turns: Turns<N>) -> (Service, Tally)
         requires ledger { IsWhole N.parts N.all }
         ensures service { result.0 ≡ self.service }
-        ensures serves { ServesNamed N.table N.setup result.0 }
-        ensures open { AllOpen N.setup result.0 }
-        ensures began { BeganWith N.setup N.first result.0 }
-        ensures own { HasOwn result.0 }
-        ensures grows { Grows N.setup N.lines N.start (view_in result.0) }
+        ensures kept { IsKept N.table N.setup N.first N.lines N.start result.0 result.1 }
         ensures played { PlaysTurns N.setup N.first N.lines turns N.start (view_in result.0) }
-        ensures started { IsStarted result.0 }
-        ensures few { asked_in (view_in result.0).letters ≤ requests_in N.lines }
-        ensures tallied { IsTally (requests_in N.lines) (length N.setup.writers) (view_in result.0).letters result.1 }
-        ensures kept { KeepsAnswers (length N.setup.writers) (view_in result.0).letters (core_of result.0).session }
     {
         let mut turns = turns;
         let Locked {
@@ -235,10 +211,9 @@ impl<N: HostName> Locked<N> {
         producer: u16,
         turns: &mut Turns<N>,
     ) -> u64
-        requires ledger { IsWhole N.parts N.all }
+        requires turn { HasTurn N.parts N.all N.lines turns.old (line.Collect producer) }
         requires table { IsNamed N.table N.setup table.now }
         requires asked { may_be_collected N.setup N.lines producer ≡ true }
-        requires next { IsNext N.lines turns.old (line.Collect producer) }
         ensures keeps { KeepsRest N.setup (core_of self.old.service) (core_of self.new.service) }
         ensures takes { Takes N.setup (places_of producer 0 N.setup.writers) result
             (view_in self.old.service) (view_in self.new.service) }
@@ -253,10 +228,9 @@ impl<N: HostName> Locked<N> {
     /// Takes them, and then the finished fragments of the chunks that the writers hold. The next one of the
     /// service's lines scrapes the producer.
     pub fn scrape(&mut self, table: &HostTable, producer: u16, turns: &mut Turns<N>) -> u64
-        requires ledger { IsWhole N.parts N.all }
+        requires turn { HasTurn N.parts N.all N.lines turns.old (line.Scrape producer) }
         requires table { IsNamed N.table N.setup table.now }
         requires line { is_scraped_by N.lines producer ≡ true }
-        requires next { IsNext N.lines turns.old (line.Scrape producer) }
         ensures keeps { KeepsRest N.setup (core_of self.old.service) (core_of self.new.service) }
         ensures scrapes { TakesAndScrapes N.setup producer result (view_in self.old.service) (view_in self.new.service) }
         ensures desk { desk_in self.new.service ≡ desk_in self.old.service }
@@ -285,19 +259,12 @@ impl<N: HostName> Locked<N> {
     /// Makes a flush request with the reading pass, which knows of it then. It is one of those for which
     /// there is room: the next one of the service's lines asks for it.
     pub fn request_passing(&mut self, table: &HostTable, pass: &mut ReadPass, turns: &mut Turns<N>)
-        requires ledger { IsWhole N.parts N.all }
+        requires turn { HasTurn N.parts N.all N.lines turns.old line.Request }
         requires table { IsNamed N.table N.setup table.now }
-        requires next { IsNext N.lines turns.old line.Request }
-        requires pass { Passes table.now pass.old }
-        requires known { IsKnownWhole (known_by_pass pass.old) }
-        requires room { asked_in (known_by_pass pass.old).letters < requests_in N.lines }
-        requires few { requests_in N.lines < MOST_REQUESTS }
-        ensures pass { Passes table.now pass.new }
-        ensures known { IsKnownWhole (known_by_pass pass.new) }
-        ensures requests { IsRequesting (view_in self.old.service) (view_in self.new.service) }
-        ensures knows { known_by_pass pass.new ≡ view_in self.new.service }
-        ensures told { (taken : Intake) → TellsLine N.setup N.first line.Request (known_by_pass pass.old) (known_by_pass pass.new) taken taken }
-        ensures desk { with_stage (desk_in self.new.service) Away ≡ with_stage (desk_in self.old.service) Away }
+        requires pass { KnowsWhole table.now pass.old }
+        requires room { MayRequest N.lines pass.old }
+        ensures pass { KnowsWhole table.now pass.new }
+        ensures requested { HasRequested N.setup N.first self.old.service self.new.service pass.old pass.new }
         ensures turns { turns.new ≡ turns.old + 2 }
     {
         self.book.audit(&mut turns.share);
@@ -319,31 +286,22 @@ impl<N: HostName> Locked<N> {
         out: &mut O,
         turns: &mut Turns<N>,
     ) -> Result<u64, WriteFault>
-        requires ledger { IsWhole N.parts N.all }
+        requires turn { HasTurn N.parts N.all N.lines turns.old (line.Read buffer limit) }
         requires table { IsNamed N.table N.setup table.now }
-        requires next { IsNext N.lines turns.old (line.Read buffer limit) }
-        requires pass { Passes table.now pass.old }
-        requires known { IsKnownWhole (known_by_pass pass.old) }
+        requires pass { KnowsWhole table.now pass.old }
         requires may { O.may_write out.old }
-        ensures pass { Passes table.now pass.new }
-        ensures known { IsKnownWhole (known_by_pass pass.new) }
-        ensures desk { with_stage (desk_in self.new.service) Away ≡ with_stage (desk_in self.old.service) Away }
-        ensures keeps { KeepsRest N.setup (core_of self.old.service) (core_of self.new.service) }
-        ensures told { IfOk result (λ _. TellsLine N.setup N.first (line.Read buffer limit)
+        ensures pass { ReadsWith N.setup table.now self.old.service self.new.service pass.old pass.new }
+        ensures told { MatchResult result
+            (λ _. TellsLine N.setup N.first (line.Read buffer limit)
+            (known_by_pass pass.old) (known_by_pass pass.new) (O.taken out.old) (O.taken out.new))
+            (λ _. FailsLine N.setup N.first (line.Read buffer limit)
             (known_by_pass pass.old) (known_by_pass pass.new) (O.taken out.old) (O.taken out.new)) }
-        ensures reads { IfOk result (λ delivered. ReadsAll N.setup (core_of self.old.service) buffer limit
-            (view_in self.old.service) (view_in self.new.service) (O.taken out.old) (O.taken out.new) delivered) }
-        ensures torn { OnErr result (FailsLine N.setup N.first (line.Read buffer limit)
-            (known_by_pass pass.old) (known_by_pass pass.new) (O.taken out.old) (O.taken out.new)) }
-        ensures fails { OnErr result (FailsAmong N.setup (core_of self.old.service) buffer limit
+        ensures reads { MatchResult result
+            (λ delivered. ReadsAll N.setup (core_of self.old.service) buffer limit
+            (view_in self.old.service) (view_in self.new.service) (O.taken out.old) (O.taken out.new) delivered)
+            (λ _. FailsAmong N.setup (core_of self.old.service) buffer limit
             (view_in self.old.service) (view_in self.new.service) (O.taken out.old) (O.taken out.new)) }
-        ensures passes { (events : List model.Event)
-            → NotesReads N.setup (core_of self.old.service) events (view_in self.old.service) (view_in self.new.service)
-            → PassReads N.setup (core_of self.old.service) events (known_by_pass pass.old) (known_by_pass pass.new) }
-        ensures count { CountsFaults (O.faults out.old) (O.faults out.new) result }
-        ensures goes_on { OnOk result (O.may_write out.new) }
-        ensures turns { OnOk result (turns.new ≡ turns.old + 2) }
-        ensures last { OnErr result (turns.new ≡ turns.old + 1) }
+        ensures ends { EndsTurn 2 turns.old turns.new (O.faults out.old) (O.faults out.new) (O.may_write out.new) result }
     {
         self.book.audit(&mut turns.share);
         self.book.add(&mut turns.share, 1);

@@ -1,13 +1,10 @@
 //! Reading the answers of writers to flush requests.
-ghost use Rattle.std.specs.Prelude.{◌≡◌, ℕ, ◌<◌, ◌≤◌, length, vec_len};
-ghost use Rattle.chunk_plain.specs.Views.{asked_in};
-ghost use Rattle.chunk_words.specs.declared.host.HostTable.{HostTable};
+ghost use Rattle.std.specs.Prelude.{ℕ, ◌<◌, length};
 ghost use Rattle.chunk_words.specs.Sits.{setup_in};
-ghost use Rattle.session_core.specs.declared.answers.SessionState.TheVariants.{Started};
-ghost use Rattle.service_core.specs.Agreement.{KeepsTaking};
-ghost use Rattle.thread_service.specs.Serving.{core_of, view_in, desk_in, Serves};
+ghost use Rattle.thread_service.specs.Serving.{view_in, desk_in, Serves};
 ghost use Rattle.thread_host.specs.Growing.{HearsLast, IsHearing};
-ghost use Rattle.thread_host.specs.Tally.{HearsOf, IsTally, KeepsAnswers, KeepsSession};
+ghost use Rattle.thread_host.specs.Tally.{HearsOf};
+ghost use Rattle.thread_host.specs.Terms.{HasTally, LeavesTally};
 
 use crate::tally::Tally;
 use chunk_words::HostTable;
@@ -17,18 +14,10 @@ use thread_service::Service;
 /// goes to the session, which keeps it, and into the tally.
 pub(crate) fn read_answers(service: &mut Service, table: &HostTable, tally: &mut Tally)
     requires serves { Serves table.now service.old }
-    requires started { (core_of service.old).session.state ≡ Started }
-    requires tally { (requests : ℕ) × IsTally requests (length (setup_in table.now).writers) (view_in service.old).letters tally.old }
-    requires room { asked_in (view_in service.old).letters ≤ vec_len tally.old.sums }
+    requires tally { HasTally table.now service.old tally.old }
     ensures serves { Serves table.now service.new }
     ensures hears { IsHearing (length (setup_in table.now).writers) (view_in service.old) (view_in service.new) }
-    ensures desk { desk_in service.new ≡ desk_in service.old }
-    ensures keeps { KeepsTaking (record (core_of service.old) { seat = (core_of service.new).seat }) (core_of service.new) }
-    ensures session { KeepsSession (core_of service.old).session (core_of service.new).session }
-    ensures kept { KeepsAnswers (length (setup_in table.now).writers) (view_in service.old).letters (core_of service.old).session
-        → KeepsAnswers (length (setup_in table.now).writers) (view_in service.new).letters (core_of service.new).session }
-    ensures tally { (requests : ℕ) → IsTally requests (length (setup_in table.now).writers) (view_in service.old).letters tally.old
-        → IsTally requests (length (setup_in table.now).writers) (view_in service.new).letters tally.new }
+    ensures leaves { LeavesTally table.now service.old service.new tally.old tally.new }
     ensures heard { (place : ℕ) → place < length (setup_in table.now).writers → HearsOf (view_in service.new) (desk_in service.new) place }
 {
     'writers: for place in 0..tally.answered.len() {
@@ -39,19 +28,11 @@ pub(crate) fn read_answers(service: &mut Service, table: &HostTable, tally: &mut
 /// Reads that of the writer at this place.
 fn read_answer(service: &mut Service, table: &HostTable, tally: &mut Tally, place: usize)
     requires serves { Serves table.now service.old }
-    requires started { (core_of service.old).session.state ≡ Started }
-    requires tally { (requests : ℕ) × IsTally requests (length (setup_in table.now).writers) (view_in service.old).letters tally.old }
-    requires room { asked_in (view_in service.old).letters ≤ vec_len tally.old.sums }
+    requires tally { HasTally table.now service.old tally.old }
     requires place { place < length (setup_in table.now).writers }
     ensures serves { Serves table.now service.new }
     ensures hears { HearsLast place (view_in service.old) (view_in service.new) }
-    ensures desk { desk_in service.new ≡ desk_in service.old }
-    ensures keeps { KeepsTaking (record (core_of service.old) { seat = (core_of service.new).seat }) (core_of service.new) }
-    ensures session { KeepsSession (core_of service.old).session (core_of service.new).session }
-    ensures kept { KeepsAnswers (length (setup_in table.now).writers) (view_in service.old).letters (core_of service.old).session
-        → KeepsAnswers (length (setup_in table.now).writers) (view_in service.new).letters (core_of service.new).session }
-    ensures tally { (requests : ℕ) → IsTally requests (length (setup_in table.now).writers) (view_in service.old).letters tally.old
-        → IsTally requests (length (setup_in table.now).writers) (view_in service.new).letters tally.new }
+    ensures leaves { LeavesTally table.now service.old service.new tally.old tally.new }
     ensures heard { HearsOf (view_in service.new) (desk_in service.new) place }
 {
     let writer = place as u16 + 1;

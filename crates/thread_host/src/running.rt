@@ -1,19 +1,8 @@
 //! The jobs of a run, beside each other.
-ghost use Rattle.std.specs.Prelude.{◌≡◌, ℕ, ◌<◌, ◌≤◌, [], ◌∷◌, length, IfOk, OnErr, OnOk};
-ghost use Rattle.byte_io.specs.Bytes.{CountsFaults};
+ghost use Rattle.std.specs.Prelude.{◌≡◌, ◌<◌, [], ◌∷◌, length};
 ghost use Rattle.trace_model.specs.Calls.{Flushed};
-ghost use Rattle.chunk_plain.specs.Views.{asked_in};
-ghost use Rattle.run_model.specs.Lines.{PlaysAll, PlaysSome};
-ghost use Rattle.chunk_words.specs.Sits.{Passes, known_by_pass};
-ghost use Rattle.replay_host.specs.Lines.{MOST_REQUESTS};
-ghost use Rattle.replay_model.specs.Flushes.{requests_in};
-ghost use Rattle.thread_service.specs.Reading.{IsKnownWhole};
-ghost use Rattle.thread_service.specs.Serving.{core_of, view_in};
-ghost use Rattle.thread_host.specs.Growing.{Grows};
-ghost use Rattle.thread_host.specs.Hosts.{AreReadyFrom, HasPlayed, HavePlayedFrom, IsReady};
-ghost use Rattle.thread_host.specs.Jobs.{KeepsLoans, FailsLines, TellsLines};
-ghost use Rattle.thread_host.specs.Keeping.{IsNamed, IsWhole, ServesNamed, AllOpen, BeganWith, IsStarted, HasOwn};
-ghost use Rattle.thread_host.specs.Tally.{IsTally, KeepsAnswers};
+ghost use Rattle.thread_host.specs.Hosts.{HasPlayed, HavePlayedFrom, IsReady};
+ghost use Rattle.thread_host.specs.Terms.{AreNamed, AreReadyNamed, Begins, ComesBack, IsBlankOf, MayPlay, PlaysJob};
 
 use crate::job::service_job;
 use crate::locked::{Locked, Readings, Takings, Turns};
@@ -50,10 +39,7 @@ fn writers_from<N: HostName + Send + Sync, R: Threads + Wait + Sync, G: Gate + S
     from: usize,
     writers: &mut [TraceWriter],
 )
-    requires table { IsNamed N.table N.setup table.now }
-    requires specs { specs.now ≡ N.setup.writers }
-    requires lines { lines.now ≡ N.lines }
-    requires ready { AreReadyFrom lines.now table.now from writers.old }
+    requires ready { AreReadyNamed N.table N.setup N.lines table.now specs.now lines.now from writers.old }
     ensures played { HavePlayedFrom lines.now table.now from writers.old writers.new }
 {
     match writers.len() {
@@ -102,21 +88,17 @@ fn start_both<N: HostName + Send + Sync, R: Threads + Wait + Sync, G: Gate + Syn
     behind: usize,
     rest: &mut [TraceWriter],
 )
-    requires table { IsNamed N.table N.setup table.now }
-    requires specs { specs.now ≡ N.setup.writers }
-    requires lines { lines.now ≡ N.lines }
     requires some { (0 < length first.old) × (0 < length rest.old) }
-    requires first { AreReadyFrom lines.now table.now from first.old }
-    requires rest { AreReadyFrom lines.now table.now behind rest.old }
-    ensures first { HavePlayedFrom lines.now table.now from first.old first.new }
-    ensures rest { HavePlayedFrom lines.now table.now behind rest.old rest.new }
+    requires first { AreReadyNamed N.table N.setup N.lines table.now specs.now lines.now from first.old }
+    requires rest { AreReadyNamed N.table N.setup N.lines table.now specs.now lines.now behind rest.old }
+    ensures { HavePlayedFrom lines.now table.now from first.old first.new × HavePlayedFrom lines.now table.now behind rest.old rest.new }
 {
     let mut play_first = ||
-        requires { IsNamed N.table N.setup table.now × (specs.now ≡ N.setup.writers) × (lines.now ≡ N.lines) × AreReadyFrom lines.now table.now from first.now }
+        requires { AreReadyNamed N.table N.setup N.lines table.now specs.now lines.now from first.now }
         ensures { HavePlayedFrom lines.entry.now table.entry.now from first.entry.now first.exit.now }
     { writers_from(rt, gate, table, service, specs, lines, from, first) };
     let mut start_rest = ||
-        requires { IsNamed N.table N.setup table.now × (specs.now ≡ N.setup.writers) × (lines.now ≡ N.lines) × AreReadyFrom lines.now table.now behind rest.now }
+        requires { AreReadyNamed N.table N.setup N.lines table.now specs.now lines.now behind rest.now }
         ensures { HavePlayedFrom lines.entry.now table.entry.now behind rest.entry.now rest.exit.now }
     { writers_from(rt, gate, table, service, specs, lines, behind, rest) };
     join_mut(rt, &mut play_first, &mut start_rest);
@@ -133,9 +115,7 @@ fn counted_job<N: HostName, R: Wait, G: Gate>(
     place: usize,
     writer: &mut TraceWriter,
 )
-    requires table { IsNamed N.table N.setup table.now }
-    requires specs { specs.now ≡ N.setup.writers }
-    requires lines { lines.now ≡ N.lines }
+    requires named { AreNamed N.table N.setup N.lines table.now specs.now lines.now }
     requires ready { IsReady lines.now table.now place writer.old }
     ensures played { HasPlayed lines.now (Flushed ∷ []) table.now place writer.new }
 {
@@ -164,13 +144,9 @@ fn job_on<N: HostName, R: Wait, G: Gate, K: Ledger>(
     writer: &mut TraceWriter,
     takings: Blank,
 )
-    requires table { IsNamed N.table N.setup table.now }
-    requires specs { specs.now ≡ N.setup.writers }
-    requires lines { lines.now ≡ N.lines }
+    requires named { AreNamed N.table N.setup N.lines table.now specs.now lines.now }
     requires ready { IsReady lines.now table.now place writer.old }
-    requires name { takings.name ≡ K.name }
-    requires parts { takings.parts ≡ K.parts }
-    requires some_part { 0 < K.parts }
+    requires takings { IsBlankOf K.name K.parts takings }
     ensures played { HasPlayed lines.now (Flushed ∷ []) table.now place writer.new }
 {
     let takings = Takings::<K>::new(takings);
@@ -204,52 +180,14 @@ pub fn run_named<
     turns: Blank,
     readings: Blank,
 ) -> (Service, Tally, Result<(), WriteFault>)
-    requires table { IsNamed N.table N.setup table.now }
-    requires specs { specs.now ≡ N.setup.writers }
-    requires lines { lines.now ≡ N.lines }
-    requires own_lines { own.now ≡ N.lines }
-    requires serves { ServesNamed N.table N.setup service }
-    requires open { AllOpen N.setup service }
-    requires began { BeganWith N.setup N.first service }
-    requires own { HasOwn service }
-    requires grows { Grows N.setup N.lines N.start (view_in service) }
-    requires started { IsStarted service }
-    requires few { asked_in (view_in service).letters ≤ requests_in N.lines }
-    requires tallied { IsTally (requests_in N.lines) (length N.setup.writers) (view_in service).letters tally }
-    requires kept { KeepsAnswers (length N.setup.writers) (view_in service).letters (core_of service).session }
-    requires none_asked { asked_in (known_by_pass pass.old).letters ≡ 0 }
-    requires few_requests { requests_in N.lines < MOST_REQUESTS }
-    requires pass { Passes table.now pass.old }
-    requires known { IsKnownWhole (known_by_pass pass.old) }
-    requires may { O.may_write out.old }
-    requires ready { AreReadyFrom own.now table.now 0 writers.old }
-    requires turns_name { turns.name ≡ N.name }
-    requires turns_parts { turns.parts ≡ N.parts }
-    requires turns_all { IsWhole N.parts N.all }
-    requires start { view_in service ≡ N.start }
-    requires readings_name { readings.name ≡ K.name }
-    requires readings_parts { readings.parts ≡ K.parts }
-    requires readings_part { 0 < K.parts }
-    ensures serves { ServesNamed N.table N.setup result.0 }
-    ensures open { AllOpen N.setup result.0 }
-    ensures began { BeganWith N.setup N.first result.0 }
-    ensures own { HasOwn result.0 }
-    ensures grows { Grows N.setup N.lines N.start (view_in result.0) }
-    ensures lines { OnOk result.2 (PlaysAll N.setup N.first N.lines N.start (view_in result.0)) }
-    ensures stopped { OnErr result.2 (PlaysSome N.setup N.first N.lines N.start (view_in result.0)) }
-    ensures started { IsStarted result.0 }
-    ensures few { asked_in (view_in result.0).letters ≤ requests_in N.lines }
-    ensures tallied { IsTally (requests_in N.lines) (length N.setup.writers) (view_in result.0).letters result.1 }
-    ensures kept { KeepsAnswers (length N.setup.writers) (view_in result.0).letters (core_of result.0).session }
-    ensures pass { Passes table.now pass.new }
-    ensures known { IsKnownWhole (known_by_pass pass.new) }
-    ensures told { IfOk result.2 (λ _. TellsLines N.setup N.first lines.now (known_by_pass pass.old) (known_by_pass pass.new)
-        (O.taken out.old) (O.taken out.new)) }
-    ensures fails { OnErr result.2 (FailsLines N.setup N.first lines.now (known_by_pass pass.old) (known_by_pass pass.new)
-        (O.taken out.old) (O.taken out.new)) }
-    ensures stands { KeepsLoans (O.taken out.old) (O.taken out.new) }
-    ensures count { CountsFaults (O.faults out.old) (O.faults out.new) result.2 }
-    ensures goes_on { OnOk result.2 (O.may_write out.new) }
+    requires plays { MayPlay N.parts N.all N.table N.setup N.lines table.now lines.now pass.old × O.may_write out.old }
+    requires service { Begins N.table N.setup N.first N.lines N.start service tally }
+    requires ready { AreReadyNamed N.table N.setup N.lines table.now specs.now own.now 0 writers.old }
+    requires ledgers { IsBlankOf N.name N.parts turns × IsBlankOf K.name K.parts readings }
+    ensures service { ComesBack N.table N.setup N.first N.lines N.start result.0 result.1 result.2 }
+    ensures job { PlaysJob N.setup N.first lines.now table.now
+        (record { pass = pass.old; taken = O.taken out.old; faults = O.faults out.old })
+        (record { pass = pass.new; taken = O.taken out.new; faults = O.faults out.new }) (O.may_write out.new) result.2 }
     ensures played { HavePlayedFrom own.now table.now 0 writers.old writers.new }
 {
     let (book, share) = turns.open::<N>();
@@ -272,7 +210,7 @@ pub fn run_named<
             )
         },
         &mut ||
-            requires { IsNamed N.table N.setup table.now × (specs.now ≡ N.setup.writers) × (own.now ≡ N.lines) × AreReadyFrom own.now table.now 0 writers.now }
+            requires { AreReadyNamed N.table N.setup N.lines table.now specs.now own.now 0 writers.now }
         { writers_from(rt, gate, table, &locked, specs, own, 0, writers) },
     );
     let (service, tally) = locked.into_inner().into_parts(turns);

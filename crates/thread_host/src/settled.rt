@@ -7,19 +7,20 @@ ghost use Rattle.chunk_words.specs.declared.host.HostTable.{HostTable};
 ghost use Rattle.chunk_words.specs.Closed.{views_of};
 ghost use Rattle.chunk_plain.specs.Letters.{last_flush};
 ghost use Rattle.chunk_words.specs.Knows.{with_tale};
-ghost use Rattle.chunk_words.specs.Sits.{Sits, setup_in, known_by, known_by_pass};
+ghost use Rattle.chunk_words.specs.Sits.{setup_in, known_by_pass};
 ghost use Rattle.scenario_text.specs.declared.scenario.NumberedLine.{NumberedLine};
 ghost use Rattle.scenario_text.specs.Scenario.{Parts};
 ghost use Rattle.trace_writer.specs.Core.{holds_chunk};
 ghost use Rattle.run_model.specs.Settled.{last_flushes};
 ghost use Rattle.thread_service.specs.Serving as serving;
-ghost use Rattle.thread_service.specs.Serving.{Serves, IsOnlySeat};
+ghost use Rattle.thread_service.specs.Serving.{Serves};
 ghost use Rattle.thread_service.specs.Settling.{TakesAllOut};
 ghost use Rattle.thread_writer.specs.Writing.{core_of, view_in, Writes};
 ghost use Rattle.thread_host.specs.Ending.{begun_counts, AreDoneSeats, HasHeardAll};
 ghost use Rattle.thread_host.specs.Growing.{IsHearing};
 ghost use Rattle.thread_host.specs.Hosts.{IsHost, IsSettledBehind, HaveAnswered, HasReadAnswers, HavePlayed};
 ghost use Rattle.thread_host.specs.Tally.{KeepsServing};
+ghost use Rattle.thread_host.specs.Terms.{LeavesSeat, OnlyLearns, StaysSettled};
 
 use crate::host::Host;
 use crate::reading::read_answers;
@@ -60,8 +61,7 @@ impl Host {
         ensures requests { asked_in (serving.view_in result.service).letters ≡ asked_in (known_by_pass self.pass).letters }
         ensures answered { HaveAnswered (asked_in (known_by_pass self.pass).letters) writers.items
             → HasReadAnswers self.table (serving.view_in result.service) }
-        ensures table { result.table ≡ self.table }
-        ensures pass { known_by_pass result.pass ≡ known_by_pass self.pass }
+        ensures stays { StaysSettled self result }
     {
         let Host {
             alloc: _,
@@ -114,14 +114,10 @@ fn end_writers(
 )
     requires serves { Serves table.now service.old }
     requires played { (lines : List NumberedLine) × HavePlayed lines last_flushes table.now writers.items }
-    requires none { seats.old.items ≡ [] }
-    requires room { length (setup_in table.now).writers ≤ vec_capacity seats.old }
+    requires room { (seats.old.items ≡ []) × (length (setup_in table.now).writers ≤ vec_capacity seats.old) }
     requires sequences { length sequences.old ≡ length (setup_in table.now).writers }
-    ensures serves { Serves table.now service.new }
-    ensures view { serving.view_in service.new ≡ serving.view_in service.old }
-    ensures only { IsOnlySeat (serving.core_of service.old) (serving.core_of service.new) }
-    ensures many { length seats.new.items ≡ length (setup_in table.now).writers }
-    ensures know { views_of seats.new.items ≡ map view_in writers.items }
+    ensures learns { OnlyLearns table.now service.old service.new }
+    ensures seats { (length seats.new.items ≡ length (setup_in table.now).writers) × (views_of seats.new.items ≡ map view_in writers.items) }
     ensures heard { HasHeardAll (length (serving.view_in service.new).looks) (serving.desk_in service.new) seats.new.items }
     ensures done { (lines : List NumberedLine) → HavePlayed lines last_flushes table.now writers.items
         → AreDoneSeats lines table.now seats.new.items sequences.new }
@@ -149,16 +145,11 @@ fn end_writer(
     requires serves { Serves table.now service.old }
     requires writes { Writes table.now writer }
     requires none_held { holds_chunk (core_of writer) ≡ false }
-    ensures serves { Serves table.now service.new }
-    ensures view { serving.view_in service.new ≡ serving.view_in service.old }
-    ensures only { IsOnlySeat (serving.core_of service.old) (serving.core_of service.new) }
+    ensures learns { OnlyLearns table.now service.old service.new }
     ensures told { serving.desk_in service.new
         ≡ with_tale (serving.desk_in service.old) (serving.view_in service.old) (core_of writer).seat.place (view_in writer).begun
         (last_flush (view_in writer).letters.answers) }
-    ensures sits { Sits table.now result.0 }
-    ensures knows { known_by result.0 ≡ view_in writer }
-    ensures place { result.0.place ≡ (core_of writer).seat.place }
-    ensures few { length (completed_images (view_in writer).begun) ≤ POSITION_LIMIT }
+    ensures seat { LeavesSeat table.now writer result.0 }
     ensures counts { result.1 ≡ begun_counts (view_in writer).calls }
 {
     ids_fit(&writer);

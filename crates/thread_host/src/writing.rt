@@ -1,13 +1,13 @@
 //! A writer's job of a run.
-ghost use Rattle.std.specs.Prelude.{◌≡◌, ℕ, suc, ◌+◌, ◌*◌, ◌<◌, ◌≤◌, true, [], ◌∷◌};
+ghost use Rattle.std.specs.Prelude.{◌≡◌, suc, ◌+◌, ◌*◌, ◌≤◌, true, [], ◌∷◌};
 ghost use Rattle.trace_model.specs.Calls.{Flushed};
 ghost use Rattle.replay_model.specs.Does.{asks_for};
 ghost use Rattle.service_core.specs.Agreement.{spec_at};
 ghost use Rattle.run_model.specs.Collected as collected;
 ghost use Rattle.run_model.specs.Collected.{may_ask};
-ghost use Rattle.thread_host.specs.Keeping.{IsNamed};
 ghost use Rattle.thread_host.specs.Hosts.{IsReady, HasPlayed};
 ghost use Rattle.thread_host.specs.Playing.{lost_in};
+ghost use Rattle.thread_host.specs.Terms.{AreNamed, IsBlankOf};
 
 use crate::help::{IdleHelp, LockHelp};
 use crate::locked::{Locked, Takings};
@@ -39,9 +39,7 @@ pub fn writer_job<N: HostName, R: Wait, G: Gate, K: Ledger>(
     writer: &mut TraceWriter,
     takings: Takings<K>,
 ) -> Takings<K>
-    requires table { IsNamed N.table N.setup table.now }
-    requires specs { specs.now ≡ N.setup.writers }
-    requires lines { lines.now ≡ N.lines }
+    requires named { AreNamed N.table N.setup N.lines table.now specs.now lines.now }
     requires ready { IsReady lines.now table.now place writer.old }
     ensures played { HasPlayed lines.now (Flushed ∷ []) table.now place writer.new }
     ensures asks { takings + asks_for (spec_at N.setup.writers place).policy * lost_in writer.new ≤ result }
@@ -134,14 +132,11 @@ fn play_helped<N: HostName, R: Wait, G: Gate, L: Ledger, K: Ledger>(
     writer: &mut TraceWriter,
     takings: Takings<K>,
 ) -> Takings<K>
-    requires table { IsNamed N.table N.setup table.now }
-    requires specs { specs.now ≡ N.setup.writers }
+    requires named { AreNamed N.table N.setup N.lines table.now specs.now lines.now }
     requires asks { may_ask N.setup N.lines place ≡ true }
     requires number { number ≡ suc place }
     requires ready { IsReady lines.now table.now place writer.old }
-    requires name { steps.name ≡ L.name }
-    requires parts { steps.parts ≡ L.parts }
-    requires some_part { 0 < L.parts }
+    requires steps { IsBlankOf L.name L.parts steps }
     ensures played { HasPlayed lines.now (Flushed ∷ []) table.now place writer.new }
     ensures asks { takings + asks_for (spec_at N.setup.writers place).policy * lost_in writer.new ≤ result }
 {

@@ -1,5 +1,6 @@
 -- One buffer is read behind another.
 use Rattle.std.proofs.Common.{◌≡◌, ◌∙◌, suc, ◌+◌, refl, ap, arith}
+use Rattle.std.proofs.lemmas.Result.{MatchResult-from_err}
 use Rattle.chunk_words.specs.Knows.{Desk}
 use Rattle.chunk_words.specs.Sits.{setup_in, known_by_pass}
 use Rattle.service_core.specs.Agreement.{first_of}
@@ -7,18 +8,15 @@ use Rattle.service_core.proofs.AgreeLemmas.{first_stays, keeps_same, keeps_both}
 use Rattle.thread_service.specs.Serving.{core_of, view_in}
 use Rattle.thread_host.proofs.Closing.{out_none, out_more}
 use Rattle.thread_host.proofs.Failing.{out_fails}
-use Rattle.thread_host.proofs.Telling.{loans_kept, on_err}
+use Rattle.thread_host.proofs.Telling.{loans_kept}
 use Rattle.thread_host.proofs.finishing.read_all.Goals as goal
 
 pub buffers-init : goal.buffers-init
 buffers-init g c =
     let setup = setup_in c.args.table.now in
     record {
-      serves = c.requires.serves;
+      stays = record { serves = c.requires.serves; keeps = keeps_same setup (core_of c.args.service.now); marks = refl };
       pass = c.requires.pass;
-      known = c.requires.known;
-      keeps = keeps_same setup (core_of c.args.service.now);
-      marks = refl;
       reads = out_none setup (first_of setup (core_of c.args.service.now)) (view_in c.args.service.now) (known_by_pass c.args.pass.now) (g.T.Sink.taken c.args.out.now);
       stands = refl;
       steady = refl;
@@ -33,34 +31,41 @@ buffers-preserved g c =
     let core = core_of c.buffers.service in
     let start = core_of c.args.service.now in
     record {
-      serves = ok.serves;
-      pass = ok.pass;
-      known = ok.known;
-      keeps = keeps_both setup start core (core_of c.read_passing.new.self) i.keeps ok.keeps;
-      marks = ap (λ (d : Desk). d.marks) ok.desk ∙ i.marks;
+      stays = record {
+        serves = ok.serves;
+        keeps = keeps_both setup start core (core_of c.read_passing.new.self) i.stays.keeps ok.keeps;
+        marks = ap (λ (d : Desk). d.marks) ok.desk ∙ i.stays.marks;
+      };
+      pass = record { passes = ok.pass; known = ok.known };
       reads = out_more setup core (first_of setup start) c.buffers.index (c.buffers.index + 1) _ (view_in c.args.service.now) (view_in c.buffers.service)
           (view_in c.read_passing.new.self) (known_by_pass c.args.pass.now) (known_by_pass c.buffers.pass) (known_by_pass c.read_passing.new.pass)
           (g.T.Sink.taken c.args.out.now) (g.T.Sink.taken c.buffers.out) (g.T.Sink.taken c.read_passing.new.out)
           (let more : c.buffers.index + 1 ≡ suc c.buffers.index = omega arith in more)
-          (first_stays setup start core i.keeps.fields) i.serves.agrees.buffers i.reads ok.reads ok.passes;
+          (first_stays setup start core i.stays.keeps.fields) i.stays.serves.agrees.buffers i.reads ok.reads ok.passes;
       stands = loans_kept (g.T.Sink.taken c.buffers.out) (g.T.Sink.taken c.read_passing.new.out) _ ok.reads.taken ∙ i.stands;
       steady = ok.count ∙ i.steady;
       may = ok.goes_on;
     }
 
-pub returns-in_err-read_passing-clause-fails : goal.returns-in_err-read_passing-clause-fails
-returns-in_err-read_passing-clause-fails g c =
+pub returns-in_err-read_passing-clause-reads : goal.returns-in_err-read_passing-clause-reads
+returns-in_err-read_passing-clause-reads g c =
     let setup = setup_in c.args.table.now in
     let i = c.buffers.invariant in
     let failed = c.in_err-read_passing.ensures in
     let core = core_of c.buffers.service in
     let start = core_of c.args.service.now in
-    on_err c.from_residual.result
-    (out_fails setup core (first_of setup start) c.buffers.index (c.buffers.index + 1) c.args.buffers (view_in c.args.service.now) (view_in c.buffers.service)
+    MatchResult-from_err c.from_residual.result _ _ c.from_residual.ensures.0 (λ _.
+    out_fails setup core (first_of setup start) c.buffers.index (c.buffers.index + 1) c.args.buffers (view_in c.args.service.now) (view_in c.buffers.service)
     (view_in c.read_passing.new.self) (known_by_pass c.args.pass.now) (known_by_pass c.buffers.pass) (known_by_pass c.read_passing.new.pass)
     (g.T.Sink.taken c.args.out.now) (g.T.Sink.taken c.buffers.out) (g.T.Sink.taken c.read_passing.new.out)
     (let more : c.buffers.index + 1 ≡ suc c.buffers.index = omega arith in more) c.buffers-test.true
-    (first_stays setup start core i.keeps.fields) i.serves.agrees.buffers i.reads failed.fails failed.passes)
+    (first_stays setup start core i.stays.keeps.fields) i.stays.serves.agrees.buffers i.reads failed.fails failed.passes)
 
-pub returns-in_err-read_passing-clause-marks : goal.returns-in_err-read_passing-clause-marks
-returns-in_err-read_passing-clause-marks g c = ap (λ (d : Desk). d.marks) c.in_err-read_passing.ensures.desk ∙ c.buffers.invariant.marks
+pub returns-in_err-read_passing-clause-stays : goal.returns-in_err-read_passing-clause-stays
+returns-in_err-read_passing-clause-stays g c =
+    let i = c.buffers.invariant in let failed = c.in_err-read_passing.ensures in
+    record {
+      serves = failed.serves;
+      keeps = keeps_both (setup_in c.args.table.now) (core_of c.args.service.now) (core_of c.buffers.service) (core_of c.read_passing.new.self) i.stays.keeps failed.keeps;
+      marks = ap (λ (d : Desk). d.marks) failed.desk ∙ i.stays.marks;
+    }

@@ -22,26 +22,34 @@ returns-in-Scrape-clause-told g c =
 pub returns-in-Request-clause-told : goal.returns-in-Request-clause-told
 returns-in-Request-clause-told g c =
     subst (λ (kind : LineKind). TellsLine g.N.HostName.setup g.N.HostName.first kind (known_by_pass c.args.pass.now) (known_by_pass c.request_passing.new.pass)
-    (g.O.Sink.taken c.args.out.now) (g.O.Sink.taken c.args.out.now)) (sym c.in-Request.is) (c.request_passing.ensures.told (g.O.Sink.taken c.args.out.now))
+    (g.O.Sink.taken c.args.out.now) (g.O.Sink.taken c.args.out.now)) (sym c.in-Request.is) (c.request_passing.ensures.requested.told (g.O.Sink.taken c.args.out.now))
 
 pub request_passing-requires-clause-room : goal.request_passing-requires-clause-room
-request_passing-requires-clause-room g c = c.requires.room c.in-Request.is
+request_passing-requires-clause-room g c = record { room = c.requires.line.room c.in-Request.is; few = c.requires.line.few }
 
-pub collect_for_line-taken-requires-clause-next : goal.collect_for_line-taken-requires-clause-next
-collect_for_line-taken-requires-clause-next g c =
-    subst (λ (kind : LineKind). IsNext g.N.HostName.lines c.args.turns.now kind) c.in-Collect.is (c.requires.next (ap is_service_line c.in-Collect.is))
+pub collect_for_line-taken-requires-clause-turn : goal.collect_for_line-taken-requires-clause-turn
+collect_for_line-taken-requires-clause-turn g c = record {
+  whole = c.requires.line.whole;
+  next = subst (λ (kind : LineKind). IsNext g.N.HostName.lines c.args.turns.now kind) c.in-Collect.is (c.requires.line.next (ap is_service_line c.in-Collect.is));
+}
 
-pub scrape-taken-requires-clause-next : goal.scrape-taken-requires-clause-next
-scrape-taken-requires-clause-next g c =
-    subst (λ (kind : LineKind). IsNext g.N.HostName.lines c.args.turns.now kind) c.in-Scrape.is (c.requires.next (ap is_service_line c.in-Scrape.is))
+pub scrape-taken-requires-clause-turn : goal.scrape-taken-requires-clause-turn
+scrape-taken-requires-clause-turn g c = record {
+  whole = c.requires.line.whole;
+  next = subst (λ (kind : LineKind). IsNext g.N.HostName.lines c.args.turns.now kind) c.in-Scrape.is (c.requires.line.next (ap is_service_line c.in-Scrape.is));
+}
 
-pub request_passing-requires-clause-next : goal.request_passing-requires-clause-next
-request_passing-requires-clause-next g c =
-    subst (λ (kind : LineKind). IsNext g.N.HostName.lines c.args.turns.now kind) c.in-Request.is (c.requires.next (ap is_service_line c.in-Request.is))
+pub request_passing-requires-clause-turn : goal.request_passing-requires-clause-turn
+request_passing-requires-clause-turn g c = record {
+  whole = c.requires.line.whole;
+  next = subst (λ (kind : LineKind). IsNext g.N.HostName.lines c.args.turns.now kind) c.in-Request.is (c.requires.line.next (ap is_service_line c.in-Request.is));
+}
 
-pub read_passing-requires-clause-next : goal.read_passing-requires-clause-next
-read_passing-requires-clause-next g c =
-    subst (λ (kind : LineKind). IsNext g.N.HostName.lines c.args.turns.now kind) c.in-Read.is (c.requires.next (ap is_service_line c.in-Read.is))
+pub read_passing-requires-clause-turn : goal.read_passing-requires-clause-turn
+read_passing-requires-clause-turn g c = record {
+  whole = c.requires.line.whole;
+  next = subst (λ (kind : LineKind). IsNext g.N.HostName.lines c.args.turns.now kind) c.in-Read.is (c.requires.line.next (ap is_service_line c.in-Read.is));
+}
 
 pub returns-in-Collect-clause-turns : goal.returns-in-Collect-clause-turns
 returns-in-Collect-clause-turns g c =
@@ -58,13 +66,8 @@ returns-in-Request-clause-turns g c =
 pub returns : goal.returns
 returns g c = record {
   pass = c.requires.pass;
-  known = c.requires.known;
   told = unread_tells g.N.HostName.setup g.N.HostName.first c.args.line.now (known_by_pass c.args.pass.now) (g.O.Sink.taken c.args.out.now)
       c.in_default.not-Read c.in_default.not-Request;
-  fails = tt;
-  stands = refl;
-  count = refl;
-  goes_on = c.requires.may;
+  sink = record { stands = refl; count = refl; goes_on = c.requires.may };
   turns = none_own c.args.line.now c.in_default.not-Collect c.in_default.not-Scrape c.in_default.not-Read c.in_default.not-Request c.args.turns.now;
-  last = tt;
 }

@@ -1,18 +1,17 @@
 -- The lines before those that are still to come were played.
 use Rattle.std.proofs.Common.{◌≡◌, List, ◌+◌, ◌++◌, length}
-use Rattle.chunk_words.specs.Sits.{Passes, known_by_pass}
+use Rattle.chunk_words.specs.Sits.{known_by_pass}
 use Rattle.scenario_text.specs.declared.scenario.NumberedLine.{NumberedLine}
-use Rattle.thread_service.specs.Reading.{IsKnownWhole}
 use Rattle.run_model.specs.Lines.{service_lines}
 use Rattle.thread_host.specs.Jobs.{KeepsLoans, TellsLines}
+use Rattle.thread_host.specs.Terms.{KnowsWhole}
 use Rattle.thread_host.proofs.job.service_job.Given as goal
 
 abbrev pub invariant-lines : goal.invariant-lines
 invariant-lines g l = record {
   before : List NumberedLine;
   all : before ++ l.walk ≡ l.fn.lines;
-  pass : Passes l.table l.pass;
-  known : IsKnownWhole (known_by_pass l.pass);
+  pass : KnowsWhole l.table l.pass;
   told : TellsLines g.N.HostName.setup g.N.HostName.first before (known_by_pass l.fn.pass) (known_by_pass l.pass)
       (g.O.Sink.taken l.fn.out) (g.O.Sink.taken l.out);
   stands : KeepsLoans (g.O.Sink.taken l.fn.out) (g.O.Sink.taken l.out);

@@ -12,31 +12,32 @@ pub writers-init : goal.writers-init
 writers-init c = record {
   serves = c.requires.serves;
   hears = refl;
-  desk = refl;
-  keeps = only_taking (core_of c.args.service.now) (core_of c.args.service.now) refl;
-  session = record { state = refl; writers = refl; requests = refl };
-  kept = λ was. was;
-  tally = λ requests tally. tally;
+  leaves = record {
+    desk = refl;
+    keeps = only_taking (core_of c.args.service.now) (core_of c.args.service.now) refl;
+    session = record { state = refl; writers = refl; requests = refl };
+    kept = λ was. was;
+    tallied = λ requests tally. tally;
+  };
   heard = λ place below. absurd (omega (arith, below));
 }
 
-pub read_answer-requires-clause-started : goal.read_answer-requires-clause-started
-read_answer-requires-clause-started c = c.writers.invariant.session.state ∙ c.requires.started
-
 pub read_answer-requires-clause-tally : goal.read_answer-requires-clause-tally
-read_answer-requires-clause-tally c = (c.requires.tally.0, c.writers.invariant.tally c.requires.tally.0 c.requires.tally.1)
-
-pub read_answer-requires-clause-room : goal.read_answer-requires-clause-room
-read_answer-requires-clause-room c =
-    let asked = hears_asked c.writers.place (view_in c.args.service.now) (view_in c.writers.service) c.writers.invariant.hears in
-    let room = c.requires.room in
-    let rows = c.requires.tally.1.rows in
-    let now = (c.writers.invariant.tally c.requires.tally.0 c.requires.tally.1).rows in
-    omega (arith, asked, room, rows, now)
+read_answer-requires-clause-tally c =
+    let i = c.writers.invariant in let first = c.requires.tally in
+    let tally = i.leaves.tallied first.tallied.0 first.tallied.1 in
+    record {
+      started = i.leaves.session.state ∙ first.started;
+      tallied = (first.tallied.0, tally);
+      room =
+          let asked = hears_asked c.writers.place (view_in c.args.service.now) (view_in c.writers.service) i.hears in
+          let room = first.room in let rows = first.tallied.1.rows in let now = tally.rows in
+          omega (arith, asked, room, rows, now);
+    }
 
 pub read_answer-requires-clause-place : goal.read_answer-requires-clause-place
 read_answer-requires-clause-place c =
-    let many = c.requires.tally.1.many in let long = c.len-place-end.ensures in let below = c.writers-test.true in
+    let many = c.requires.tally.tallied.1.many in let long = c.len-place-end.ensures in let below = c.writers-test.true in
     omega (arith, many, long, below)
 
 pub writers-preserved : goal.writers-preserved
@@ -47,15 +48,17 @@ writers-preserved c =
     record {
       serves = reads.serves;
       hears = hears_next c.writers.place (view_in first) (view_in old) (view_in new) i.hears reads.hears;
-      desk = reads.desk ∙ i.desk;
-      keeps = taking_both (core_of first) (core_of old) (core_of new) i.keeps reads.keeps;
-      session = session_both (core_of first).session (core_of old).session (core_of new).session i.session reads.session;
-      kept = λ was. reads.kept (i.kept was);
-      tally = λ requests tally. reads.tally requests (i.tally requests tally);
+      leaves = record {
+        desk = reads.leaves.desk ∙ i.leaves.desk;
+        keeps = taking_both (core_of first) (core_of old) (core_of new) i.leaves.keeps reads.leaves.keeps;
+        session = session_both (core_of first).session (core_of old).session (core_of new).session i.leaves.session reads.leaves.session;
+        kept = λ was. reads.leaves.kept (i.leaves.kept was);
+        tallied = λ requests tally. reads.leaves.tallied requests (i.leaves.tallied requests tally);
+      };
       heard = λ place below. elim (cases_eq place c.writers.place) [
         | inl is ↦ subst (HearsOf (view_in new) (desk_in new)) (sym is) reads.heard
         | inr apart ↦
-            heard_stays (view_in old) (view_in new) (desk_in old) (desk_in new) place c.writers.place reads.hears reads.desk
+            heard_stays (view_in old) (view_in new) (desk_in old) (desk_in new) place c.writers.place reads.hears reads.leaves.desk
             (i.heard place (omega (arith, below, apart)))
       ];
     }
@@ -63,12 +66,12 @@ writers-preserved c =
 -- behind the last place all were read
 pub returns-clause-hears : goal.returns-clause-hears
 returns-clause-hears c =
-    let many = c.requires.tally.1.many in let long = c.len-place-end.ensures in let out = c.writers-test.false in let bound = c.writers.auto.place-end in
+    let many = c.requires.tally.tallied.1.many in let long = c.len-place-end.ensures in let out = c.writers-test.false in let bound = c.writers.auto.place-end in
     let place : ℕ = c.writers.place in
     let all : place ≡ length (setup_in c.args.table.now).writers = omega (arith, many, long, out, bound) in
     subst (λ (n : ℕ). IsHearing n (view_in c.args.service.now) (view_in c.writers.service)) all c.writers.invariant.hears
 
 pub returns-clause-heard : goal.returns-clause-heard
 returns-clause-heard c place inside =
-    let many = c.requires.tally.1.many in let long = c.len-place-end.ensures in let out = c.writers-test.false in
+    let many = c.requires.tally.tallied.1.many in let long = c.len-place-end.ensures in let out = c.writers-test.false in
     c.writers.invariant.heard place (omega (arith, inside, many, long, out))

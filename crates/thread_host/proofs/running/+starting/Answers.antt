@@ -13,5 +13,5 @@ writers_from-returns-after-many-gt-MOST_STARTS g c c' =
     record {
       played = subst (λ (old : List TraceWriter). HavePlayedFrom c'.args.lines.now c'.args.table.now from old (played.first ++ played.rest)) (sym parts.value)
           (both_played c'.args.lines.now c'.args.table.now from (from + c'.if-many-gt-MOST_STARTS.front) first rest played.first played.rest
-          (ap (λ (n : ℕ). from + n) (sym parts.front_len)) c'.start_both.ensures.first c'.start_both.ensures.rest);
+          (ap (λ (n : ℕ). from + n) (sym parts.front_len)) c'.start_both.ensures.0 c'.start_both.ensures.1);
     }

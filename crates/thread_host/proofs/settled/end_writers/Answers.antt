@@ -75,11 +75,11 @@ writers-preserved c =
     let played = c.requires.played.1.each c.writers.place writer there in
     let old_looks = length (serving.view_in c.writers.service).looks in
     let looks_same : length (serving.view_in c.writers.service).looks ≡ length (serving.view_in c.end_writer-seat.new.service).looks =
-    ap (λ v. length v.looks) (sym ends.view) in
+    ap (λ v. length v.looks) (sym ends.learns.view) in
     let last = subst (λ (p : ℕ). HasPlayed c.requires.played.0 last_flushes c.args.table.now p writer) here played in
     let heard = heard_all old_looks (serving.desk_in c.writers.service) (serving.view_in c.writers.service) (core_of writer).seat.place (view_in writer).begun (last_flush (view_in writer).letters.answers)
     seats seat i.heard
-    (heard_last c.requires.played.0 c.args.table.now place (serving.view_in c.writers.service) (serving.desk_in c.writers.service) writer seat last ends.knows ends.few) in
+    (heard_last c.requires.played.0 c.args.table.now place (serving.view_in c.writers.service) (serving.desk_in c.writers.service) writer seat last ends.seat.knows ends.seat.few) in
     let heard_next = subst (λ (d : Desk). HasHeardAll old_looks d (seats ++ seat ∷ [])) (sym ends.told) heard in
     let heard_now = subst (λ (n : ℕ). HasHeardAll n (serving.desk_in c.end_writer-seat.new.service) (seats ++ seat ∷ [])) looks_same heard_next in
     let wide = i.sequences in
@@ -93,17 +93,19 @@ writers-preserved c =
       all = append_assoc i.gone (writer ∷ []) c.remove.new.self.items ∙ ap (λ (ws : List TraceWriter). i.gone ++ ws) (sym first) ∙ i.all;
       many = omega (arith, more, gone_is);
       seats_many = ap (λ (ss : List WriterSeat). length ss) items ∙ grown ∙ (let same : length seats + 1 ≡ c.writers.place + 1 = omega (arith, seats_is) in same);
-      know = ap views_of items ∙ know_last seats i.gone seat writer i.know ends.knows;
+      know = ap views_of items ∙ know_last seats i.gone seat writer i.know ends.seat.knows;
       room = omega (arith, room, capacity);
       sequences = length-set c.writers.sequences c.writers.place counts ∙ i.sequences;
-      serves = ends.serves;
-      view = ends.view ∙ i.view;
-      only = only_both (serving.core_of c.args.service.now) (serving.core_of c.writers.service) (serving.core_of c.end_writer-seat.new.service) i.only ends.only;
+      learns = record {
+        serves = ends.learns.serves;
+        view = ends.learns.view ∙ i.learns.view;
+        only = only_both (serving.core_of c.args.service.now) (serving.core_of c.writers.service) (serving.core_of c.end_writer-seat.new.service) i.learns.only ends.learns.only;
+      };
       heard = subst (λ (ss : List WriterSeat). HasHeardAll (length (serving.view_in c.end_writer-seat.new.service).looks) (serving.desk_in c.end_writer-seat.new.service) ss)
           (sym items) heard_now;
       ended = λ lines have.
           let one = done_seat lines c.args.table.now place writer seat counts
-          (subst (λ (p : ℕ). HasPlayed lines last_flushes c.args.table.now p writer) here (have.each c.writers.place writer there)) ends.sits ends.knows ends.place ends.counts in
+          (subst (λ (p : ℕ). HasPlayed lines last_flushes c.args.table.now p writer) here (have.each c.writers.place writer there)) ends.seat.sits ends.seat.knows ends.seat.place_is ends.counts in
           subst (λ (ss : List WriterSeat). AreDoneSeats lines c.args.table.now ss (slice_set c.writers.sequences c.writers.place counts)) (sym items)
           (subst (λ (p : ℕ). AreDoneSeats lines c.args.table.now (seats ++ seat ∷ []) (slice_set c.writers.sequences p counts)) (sym here)
           (done_all lines c.args.table.now seats seat c.writers.sequences counts inside (i.ended lines have) one));

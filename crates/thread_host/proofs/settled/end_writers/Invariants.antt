@@ -6,11 +6,11 @@ use Rattle.chunk_words.specs.Sits.{setup_in}
 use Rattle.run_model.specs.Settled.{last_flushes}
 use Rattle.scenario_text.specs.declared.scenario.NumberedLine.{NumberedLine}
 use Rattle.thread_service.specs.Serving as serving
-use Rattle.thread_service.specs.Serving.{Serves, IsOnlySeat}
 use Rattle.thread_writer.specs.declared.writer.TraceWriter.{TraceWriter}
 use Rattle.thread_writer.specs.Writing.{view_in}
 use Rattle.thread_host.specs.Ending.{AreDoneSeats, HasHeardAll}
 use Rattle.thread_host.specs.Hosts.{HavePlayed}
+use Rattle.thread_host.specs.Terms.{OnlyLearns}
 use Rattle.thread_host.proofs.settled.end_writers.Given as goal
 
 abbrev pub invariant-writers : goal.invariant-writers
@@ -22,9 +22,7 @@ invariant-writers l = record {
   know : views_of l.seats.items ≡ map view_in gone;
   room : length (setup_in l.table).writers ≤ vec_capacity l.seats;
   sequences : length l.sequences ≡ length (setup_in l.table).writers;
-  serves : Serves l.table l.service;
-  view : serving.view_in l.service ≡ serving.view_in l.fn.service;
-  only : IsOnlySeat (serving.core_of l.fn.service) (serving.core_of l.service);
+  learns : OnlyLearns l.table l.fn.service l.service;
   heard : HasHeardAll (length (serving.view_in l.service).looks) (serving.desk_in l.service) l.seats.items;
   ended : (lines : List NumberedLine) → HavePlayed lines last_flushes l.table l.fn.writers.items → AreDoneSeats lines l.table l.seats.items l.sequences;
 }

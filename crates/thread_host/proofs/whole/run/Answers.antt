@@ -23,20 +23,20 @@ returns-in-Ok-finish-clause-ends g c =
     let after = g.T.Sink.taken c.finish.new.out in
     let first = known_by_pass made.pass in
     let same_pass = subst (λ (known : ServiceView). TellsLines (setup_in made.table) (buffers_of scenario (setup_in made.table)) scenario.lines first known before between)
-    (sym c.settle-settled.ensures.pass) c.in-Ok-ran.ensures.told in
+    (sym c.settle-settled.ensures.stays.pass) c.in-Ok-ran.ensures.job.told in
     let same_table = subst (λ (table : HostTable). TellsLines (setup_in table) (buffers_of scenario (setup_in table)) scenario.lines first (known_by_pass settled.pass) before between)
-    (sym (c.settle-settled.ensures.table ∙ c.run-ran.ensures.table)) same_pass in
-    let answers = subst (λ (table : HostTable). HasReadAnswers table (view_in settled.service)) (sym c.settle-settled.ensures.table)
-    (c.settle-settled.ensures.answered c.run-ran.ensures.answered) in
-    let settles = c.settle-settled.ensures.settled scenario c.run-ran.ensures.host c.run-ran.ensures.played in
+    (sym (c.settle-settled.ensures.stays.table ∙ c.run-ran.ensures.host.table)) same_pass in
+    let answers = subst (λ (table : HostTable). HasReadAnswers table (view_in settled.service)) (sym c.settle-settled.ensures.stays.table)
+    (c.settle-settled.ensures.answered c.run-ran.ensures.writers.answered) in
+    let settles = c.settle-settled.ensures.settled scenario c.run-ran.ensures.host.host c.run-ran.ensures.writers.played in
     let lines = subst (λ (table : HostTable). PlaysAll (setup_in table) (buffers_of scenario (setup_in table)) scenario.lines (first_world (setup_in table)).service
-    settles.0.stood.service) (sym (c.settle-settled.ensures.table ∙ c.run-ran.ensures.table))
+    settles.0.stood.service) (sym (c.settle-settled.ensures.stays.table ∙ c.run-ran.ensures.host.table))
     (all_played (setup_in made.table) (buffers_of scenario (setup_in made.table)) scenario.lines _ made.service c.run-ran.new.self.service settles.0.stood.service
-    c.in-Ok.ensures.fresh c.in-Ok-ran.ensures.lines (is_there _ c.run-ran.new.self.service c.run-ran.ensures.host.served) settles.1) in
+    c.in-Ok.ensures.fresh c.in-Ok-ran.ensures.service.played (is_there _ c.run-ran.new.self.service c.run-ran.ensures.host.host.served) settles.1) in
     let finished = c.in-Ok-finish.ensures.done scenario settles.0 in
     has_run c.every_run_is_faithful.ensures c.every_run_is_balanced.ensures c.every_run_counts_packets.ensures c.every_enough_run_is_complete.ensures
     c.args.scenario.now settled settles.0 first before between after c.in-Ok-finish.done c.requires.scenario c.requires.raws c.in-Ok.ensures.unread same_table c.in-Ok.ensures.unasked
-    (c.settle-settled.ensures.requests ∙ ap (λ (v : ServiceView). asked_in v.letters) (sym c.settle-settled.ensures.pass)) answers lines finished
+    (c.settle-settled.ensures.requests ∙ ap (λ (v : ServiceView). asked_in v.letters) (sym c.settle-settled.ensures.stays.pass)) answers lines finished
 
 pub returns-in-Err-finish-clause-ends : goal.returns-in-Err-finish-clause-ends
 returns-in-Err-finish-clause-ends g c =
@@ -47,14 +47,14 @@ returns-in-Err-finish-clause-ends g c =
     let between = g.T.Sink.taken c.run-ran.new.out in
     let first = known_by_pass made.pass in
     let same_pass = subst (λ (known : ServiceView). TellsLines (setup_in made.table) (buffers_of scenario (setup_in made.table)) scenario.lines first known before between)
-    (sym c.settle-settled.ensures.pass) c.in-Ok-ran.ensures.told in
+    (sym c.settle-settled.ensures.stays.pass) c.in-Ok-ran.ensures.job.told in
     let same_table = subst (λ (table : HostTable). TellsLines (setup_in table) (buffers_of scenario (setup_in table)) scenario.lines first (known_by_pass settled.pass) before between)
-    (sym (c.settle-settled.ensures.table ∙ c.run-ran.ensures.table)) same_pass in
-    let settles = c.settle-settled.ensures.settled scenario c.run-ran.ensures.host c.run-ran.ensures.played in
+    (sym (c.settle-settled.ensures.stays.table ∙ c.run-ran.ensures.host.table)) same_pass in
+    let settles = c.settle-settled.ensures.settled scenario c.run-ran.ensures.host.host c.run-ran.ensures.writers.played in
     let lines = subst (λ (table : HostTable). PlaysAll (setup_in table) (buffers_of scenario (setup_in table)) scenario.lines (first_world (setup_in table)).service
-    settles.0.stood.service) (sym (c.settle-settled.ensures.table ∙ c.run-ran.ensures.table))
+    settles.0.stood.service) (sym (c.settle-settled.ensures.stays.table ∙ c.run-ran.ensures.host.table))
     (all_played (setup_in made.table) (buffers_of scenario (setup_in made.table)) scenario.lines _ made.service c.run-ran.new.self.service settles.0.stood.service
-    c.in-Ok.ensures.fresh c.in-Ok-ran.ensures.lines (is_there _ c.run-ran.new.self.service c.run-ran.ensures.host.served) settles.1) in
+    c.in-Ok.ensures.fresh c.in-Ok-ran.ensures.service.played (is_there _ c.run-ran.new.self.service c.run-ran.ensures.host.host.served) settles.1) in
     end_fails c.every_stopped_run_is_faithful.ensures scenario settled settles.0 first c.in-Ok.ensures.unread before between (g.T.Sink.taken c.finish.new.out) same_table
     lines (c.in-Err-finish.ensures.fails scenario settles.0)
 
@@ -67,13 +67,13 @@ returns-in-Err-clause-ends g c =
     let after = g.T.Sink.taken c.run-ran.new.out in
     let first = known_by_pass made.pass in
     let same_pass = subst (λ (known : ServiceView). FailsLines (setup_in made.table) (buffers_of scenario (setup_in made.table)) scenario.lines first known before after)
-    (sym c.settle-settled.ensures.pass) c.in-Err.ensures.fails in
+    (sym c.settle-settled.ensures.stays.pass) c.in-Err.ensures.job.told in
     let same_table = subst (λ (table : HostTable). FailsLines (setup_in table) (buffers_of scenario (setup_in table)) scenario.lines first (known_by_pass settled.pass) before after)
-    (sym (c.settle-settled.ensures.table ∙ c.run-ran.ensures.table)) same_pass in
-    let settles = c.settle-settled.ensures.settled scenario c.run-ran.ensures.host c.run-ran.ensures.played in
+    (sym (c.settle-settled.ensures.stays.table ∙ c.run-ran.ensures.host.table)) same_pass in
+    let settles = c.settle-settled.ensures.settled scenario c.run-ran.ensures.host.host c.run-ran.ensures.writers.played in
     let lines = subst (λ (table : HostTable). PlaysSome (setup_in table) (buffers_of scenario (setup_in table)) scenario.lines (first_world (setup_in table)).service
-    settles.0.stood.service) (sym (c.settle-settled.ensures.table ∙ c.run-ran.ensures.table))
+    settles.0.stood.service) (sym (c.settle-settled.ensures.stays.table ∙ c.run-ran.ensures.host.table))
     (some_played (setup_in made.table) (buffers_of scenario (setup_in made.table)) scenario.lines _ made.service c.run-ran.new.self.service settles.0.stood.service
-    c.in-Ok.ensures.fresh c.in-Err.ensures.stopped (is_there _ c.run-ran.new.self.service c.run-ran.ensures.host.served) settles.1) in
+    c.in-Ok.ensures.fresh c.in-Err.ensures.service.played (is_there _ c.run-ran.new.self.service c.run-ran.ensures.host.host.served) settles.1) in
     lines_fail c.every_stopped_run_is_faithful.ensures scenario settled settles.0 first c.in-Ok.ensures.unread before after same_table lines
     (c.let_go.ensures.left scenario settles.0)

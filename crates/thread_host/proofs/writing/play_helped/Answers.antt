@@ -12,7 +12,7 @@ use Rattle.thread_host.proofs.writing.play_helped.Goals as goal
 
 pub new-requires-clause-asked : goal.new-requires-clause-asked
 new-requires-clause-asked g c =
-    subst (λ (specs : List WriterSpec). has_asker g.N.HostName.setup g.N.HostName.lines (spec_at specs c.args.place).producer ≡ true) (sym c.requires.specs)
+    subst (λ (specs : List WriterSpec). has_asker g.N.HostName.setup g.N.HostName.lines (spec_at specs c.args.place).producer ≡ true) (sym c.requires.named.specs_are)
     (asked_here g.N.HostName.setup g.N.HostName.lines c.args.place c.requires.asks)
 
 pub returns-clause-asks : goal.returns-clause-asks
@@ -24,5 +24,5 @@ returns-clause-asks g c =
     (counted_helps _ _ c.args.writer.now c.play_all.new.help c.play_all.new.writer c.play_all.ensures.helped
     (none_lost c.args.lines.now c.args.table.now c.args.place c.args.writer.now c.requires.ready)
     (spec_at setup.writers c.args.place).policy
-    (policy_here setup c.args.lines.now c.args.table.now c.args.place c.args.writer.now c.requires.table.setup_is c.requires.ready)
+    (policy_here setup c.args.lines.now c.args.table.now c.args.place c.args.writer.now c.requires.named.table_is.setup_is c.requires.ready)
     (λ help. help.takings) (λ helper producer answer next helped. helped.2)))

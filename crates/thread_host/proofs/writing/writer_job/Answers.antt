@@ -20,7 +20,7 @@ pub returns-then-not-asks_help-clause-asks : goal.returns-then-not-asks_help-cla
 returns-then-not-asks_help-clause-asks g c =
     let ready = c.requires.ready in
     none_wanted c.args.takings (lost_in c.play_all.new.writer) (spec_at g.N.HostName.setup.writers c.args.place).policy
-    (ap asks_help (sym (policy_here g.N.HostName.setup c.args.lines.now c.args.table.now c.args.place c.args.writer.now c.requires.table.setup_is ready))
+    (ap asks_help (sym (policy_here g.N.HostName.setup c.args.lines.now c.args.table.now c.args.place c.args.writer.now c.requires.named.table_is.setup_is ready))
     ∙ ap asks_help (sym (c.policy.ensures c.args.table.now ready.writes)) ∙ sym c.asks_help.ensures ∙ c.if-not-asks_help.true)
 
 pub returns-then-not-begins_packets-clause-asks : goal.returns-then-not-begins_packets-clause-asks
@@ -29,7 +29,7 @@ returns-then-not-begins_packets-clause-asks g c =
     idle_helps _ _ c.args.writer.now _ _ c.play_all-then-not-begins_packets.ensures.helped
     (none_lost c.args.lines.now c.args.table.now c.args.place c.args.writer.now ready)
     (spec_at g.N.HostName.setup.writers c.args.place).policy
-    (policy_here g.N.HostName.setup c.args.lines.now c.args.table.now c.args.place c.args.writer.now c.requires.table.setup_is ready)
+    (policy_here g.N.HostName.setup c.args.lines.now c.args.table.now c.args.place c.args.writer.now c.requires.named.table_is.setup_is ready)
     c.args.takings (λ helper producer answer next helped. helped)
 
 -- One that stalls, for ever or so often, and begins a packet, asks for help.
@@ -37,6 +37,6 @@ pub play_helped-requires-clause-asks : goal.play_helped-requires-clause-asks
 play_helped-requires-clause-asks g c =
     let ready = c.requires.ready in
     asks_too g.N.HostName.setup g.N.HostName.lines c.args.lines.now c.args.place _ c.begins_packets.result
-    (ap asks_help (sym (policy_here g.N.HostName.setup c.args.lines.now c.args.table.now c.args.place c.args.writer.now c.requires.table.setup_is ready))
+    (ap asks_help (sym (policy_here g.N.HostName.setup c.args.lines.now c.args.table.now c.args.place c.args.writer.now c.requires.named.table_is.setup_is ready))
     ∙ ap asks_help (sym (c.policy.ensures c.args.table.now ready.writes)) ∙ sym c.asks_help.ensures ∙ c.if-not-asks_help.false)
-    c.begins_packets.ensures c.if-not-begins_packets.false c.requires.lines (omega arith)
+    c.begins_packets.ensures c.if-not-begins_packets.false c.requires.named.lines_are (omega arith)

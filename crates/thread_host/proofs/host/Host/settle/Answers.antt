@@ -45,26 +45,19 @@ unreachable-requires-in_default-tally c =
     IsTally (requests_in scenario.lines) (length (setup_in c.args.self.table).writers) (serving.view_in service).letters tally))) c.in_default-tally.is
     c.requires.played.1.tallied
 
-pub read_answers-requires-clause-started : goal.read_answers-requires-clause-started
-read_answers-requires-clause-started c =
-    let was = subst (λ (o : Option Service). IsSomeAnd o (IsServed c.requires.played.0 c.args.self.table)) c.in-Some.is c.requires.played.1.served in
-    (only_session (serving.core_of c.in-Some.service) (serving.core_of c.end_writers.new.service) c.end_writers.ensures.only).state ∙ was.started
-
 pub read_answers-requires-clause-tally : goal.read_answers-requires-clause-tally
 read_answers-requires-clause-tally c =
-    let scenario = c.requires.played.0 in (
-      requests_in scenario.lines,
-      subst (λ (v : ServiceView). IsTally (requests_in scenario.lines) (length (setup_in c.args.self.table).writers) v.letters c.in-Some-tally.tally) (sym c.end_writers.ensures.view)
-          (tally_there scenario c.args.self.table c.args.self.service c.in-Some.service c.args.self.tally c.in-Some-tally.tally c.requires.played.1.tallied c.in-Some.is c.in-Some-tally.is),
-    )
-
-pub read_answers-requires-clause-room : goal.read_answers-requires-clause-room
-read_answers-requires-clause-room c =
-    let scenario = c.requires.played.0 in
-    let was = subst (λ (o : Option Service). IsSomeAnd o (IsServed scenario c.args.self.table)) c.in-Some.is c.requires.played.1.served in
-    let tally = tally_there scenario c.args.self.table c.args.self.service c.in-Some.service c.args.self.tally c.in-Some-tally.tally c.requires.played.1.tallied c.in-Some.is c.in-Some-tally.is in
-    let same = ap (λ (v : ServiceView). asked_in v.letters) c.end_writers.ensures.view in
-    let few = was.few in let rows = tally.rows in omega (arith, same, few, rows)
+    let scenario = c.requires.played.0 in let host = c.requires.played.1 in let learns = c.end_writers.ensures.learns in
+    let was = subst (λ (o : Option Service). IsSomeAnd o (IsServed scenario c.args.self.table)) c.in-Some.is host.served in
+    let tally = tally_there scenario c.args.self.table c.args.self.service c.in-Some.service c.args.self.tally c.in-Some-tally.tally host.tallied c.in-Some.is c.in-Some-tally.is in
+    record {
+      started = (only_session (serving.core_of c.in-Some.service) (serving.core_of c.end_writers.new.service) learns.only).state ∙ was.started;
+      tallied = (
+        requests_in scenario.lines,
+        subst (λ (v : ServiceView). IsTally (requests_in scenario.lines) (length (setup_in c.args.self.table).writers) v.letters c.in-Some-tally.tally) (sym learns.view) tally,
+      );
+      room = let same = ap (λ (v : ServiceView). asked_in v.letters) learns.view in let few = was.few in let rows = tally.rows in omega (arith, same, few, rows);
+    }
 
 pub returns-clause-service : goal.returns-clause-service
 returns-clause-service c =
@@ -72,8 +65,8 @@ returns-clause-service c =
     let first : Service = c.in-Some.service in
     subst (λ (o : Option Service). IfSome o (λ before. KeepsServing setup (serving.core_of before) (serving.core_of c.settle.new.self))) (sym c.in-Some.is)
     (settle_keeps setup (serving.core_of first) (serving.core_of c.end_writers.new.service) (serving.core_of c.read_answers.new.service)
-    (serving.core_of c.compare.new.self) (serving.core_of c.mark.new.self) (serving.core_of c.settle.new.self) c.end_writers.ensures.only
-    c.read_answers.ensures.keeps c.read_answers.ensures.session c.compare.ensures.only c.mark.ensures.only c.settle.ensures.keeps)
+    (serving.core_of c.compare.new.self) (serving.core_of c.mark.new.self) (serving.core_of c.settle.new.self) c.end_writers.ensures.learns.only
+    c.read_answers.ensures.leaves.keeps c.read_answers.ensures.leaves.session c.compare.ensures.only c.mark.ensures.only c.settle.ensures.keeps)
 
 pub returns-clause-takes : goal.returns-clause-takes
 returns-clause-takes c =
@@ -83,7 +76,7 @@ returns-clause-takes c =
     subst (λ (o : Option Service). IfSome o (λ before. (view : ServiceView) × IsHearing (length setup.writers) (serving.view_in before) view
     × TakesAllOut setup (length setup.ranges) view (serving.view_in last))) (sym c.in-Some.is) (
       heard,
-      subst (λ (v : ServiceView). IsHearing (length setup.writers) v heard) c.end_writers.ensures.view c.read_answers.ensures.hears,
+      subst (λ (v : ServiceView). IsHearing (length setup.writers) v heard) c.end_writers.ensures.learns.view c.read_answers.ensures.hears,
       subst (λ (v : ServiceView). TakesAllOut setup (length setup.ranges) v (serving.view_in last)) (c.mark.ensures.view ∙ c.compare.ensures.view) c.settle.ensures.takes,
     )
 
@@ -102,12 +95,12 @@ returns-clause-answered c have =
     → (n : ℕ) × (chunks : ℕ) × At letters n (Heard place (asked_in letters) chunks)) (sym same)
     (λ some place inside.
     let heard = c.read_answers.ensures.heard place inside in
-    let many = c.end_writers.ensures.many in
+    let many = c.end_writers.ensures.seats.0 in
     let here = seat_at c.end_writers.new.seats.items place (omega (arith, inside, many)) in
     let told = c.end_writers.ensures.heard place here.seat here.there in
-    let tale = heard.told told.number told.tale (subst (λ (d : Desk). At d.told told.number told.tale) (sym c.read_answers.ensures.desk) told.told) told.place_is in
+    let tale = heard.told told.number told.tale (subst (λ (d : Desk). At d.told told.number told.tale) (sym c.read_answers.ensures.leaves.desk) told.told) told.place_is in
     let flush = told.flush_is in
-    let last = answered_seat (asked_in (known_by_pass c.args.self.pass).letters) c.args.writers.items c.end_writers.new.seats.items place here.seat c.end_writers.ensures.know here.there have in
+    let last = answered_seat (asked_in (known_by_pass c.args.self.pass).letters) c.args.writers.items c.end_writers.new.seats.items place here.seat c.end_writers.ensures.seats.1 here.there have in
     let asked = c.compare.ensures.goes_on.asked in
     let made = heard.made in
     let number : heard.flush ≡ asked_in view.letters = omega (arith, tale, flush, last, asked, made) in
@@ -127,17 +120,17 @@ returns-clause-settled c scenario host played =
     let heard_view = serving.view_in c.read_answers.new.service in
     let marked_view : serving.view_in marked ≡ heard_view = c.mark.ensures.view ∙ c.compare.ensures.view in
     let writers : ℕ = length (setup_in table).writers in
-    let hears = subst (λ (v : ServiceView). IsHearing writers v heard_view) ends.view reads.hears in
+    let hears = subst (λ (v : ServiceView). IsHearing writers v heard_view) ends.learns.view reads.hears in
     let letters = hears_letters writers (serving.view_in first) heard_view hears in
     let letters_same : (serving.view_in last).letters ≡ heard_view.letters = settles.letters ∙ ap (λ (v : ServiceView). v.letters) marked_view in
     let desk_told : (serving.desk_in c.compare.new.self).told ≡ (serving.desk_in mid).told =
-    ap (λ (d : Desk). d.told) c.compare.ensures.desk ∙ ap (λ (d : Desk). d.told) reads.desk in
+    ap (λ (d : Desk). d.told) c.compare.ensures.desk ∙ ap (λ (d : Desk). d.told) reads.leaves.desk in
     let looks_same : length (serving.view_in mid).looks ≡ length (serving.view_in marked).looks =
     sym (ap (λ (v : ServiceView). length v.looks) marked_view ∙ ap (λ (v : ServiceView). length v.looks) (hears_letters writers (serving.view_in mid) heard_view reads.hears).2) in
     let seats : List WriterSeat = c.end_writers.new.seats.items in
     let was = subst (λ (o : Option Service). IsSomeAnd o (IsServed scenario table)) c.in-Some.is host.served in
     let keeps = settle_keeps (setup_in table) (serving.core_of first) (serving.core_of mid) (serving.core_of c.read_answers.new.service)
-    (serving.core_of c.compare.new.self) (serving.core_of marked) (serving.core_of last) ends.only reads.keeps reads.session c.compare.ensures.only c.mark.ensures.only settles.keeps in
+    (serving.core_of c.compare.new.self) (serving.core_of marked) (serving.core_of last) ends.learns.only reads.leaves.keeps reads.leaves.session c.compare.ensures.only c.mark.ensures.only settles.keeps in
     let done = ends.done scenario.lines played in
     let wrote : List SequenceCounts = c.end_writers.new.sequences in
     let long = c.end_writers.auto.sequences in
@@ -153,15 +146,15 @@ returns-clause-settled c scenario host played =
             (ap asked_in letters_same ∙ hears_asked writers (serving.view_in first) heard_view hears)
             (same_ordered heard_view.letters (serving.view_in last).letters letters_same (hears_ordered writers (serving.view_in first) heard_view hears was.in_order))
             (settle_answers (setup_in table) writers (serving.core_of first) (serving.core_of mid) (serving.core_of c.read_answers.new.service)
-            (serving.core_of c.compare.new.self) (serving.core_of marked) (serving.core_of last) ends.only c.compare.ensures.only c.mark.ensures.only settles.keeps
-            (ap (λ (v : ServiceView). v.letters) ends.view) letters_same reads.kept was.kept);
-        many = ends.many;
+            (serving.core_of c.compare.new.self) (serving.core_of marked) (serving.core_of last) ends.learns.only c.compare.ensures.only c.mark.ensures.only settles.keeps
+            (ap (λ (v : ServiceView). v.letters) ends.learns.view) letters_same reads.leaves.kept was.kept);
+        many = ends.seats.0;
         done = subst (λ (xs : List SequenceCounts). AreDoneSeats scenario.lines table seats xs)
             (sym (with_items_is c.args.self.counts.sequences wrote (omega (arith, long, lent, ok)))) done;
         taken = λ place seat there.
             let heard = ends.heard place seat there in
             let inside = slice_get_within seats place seat there in
-            let many = ends.many in
+            let many = ends.seats.0 in
             let whole = whole_tale scenario.lines table (serving.view_in mid) (serving.desk_in mid) place seat _ (omega (arith, inside, many)) (done place seat there) heard in
             let at_compare : At (serving.desk_in c.compare.new.self).told heard.number heard.tale =
             subst (λ (told : List Tale). At told heard.number heard.tale) (sym desk_told) heard.told in
@@ -186,8 +179,8 @@ returns-clause-settled c scenario host played =
         buffers = host.buffers;
         sequences = host.sequences;
         flushes = λ all.
-            let tally = reads.tally (requests_in scenario.lines)
-            (subst (λ (v : ServiceView). IsTally (requests_in scenario.lines) (length (setup_in table).writers) v.letters c.in-Some-tally.tally) (sym ends.view)
+            let tally = reads.leaves.tallied (requests_in scenario.lines)
+            (subst (λ (v : ServiceView). IsTally (requests_in scenario.lines) (length (setup_in table).writers) v.letters c.in-Some-tally.tally) (sym ends.learns.view)
             (tally_there scenario table c.args.self.service first c.args.self.tally c.in-Some-tally.tally host.tallied c.in-Some.is c.in-Some-tally.is)) in
             ap (λ (v : _). v.items) c.into_sums.ensures
             ∙ sums_are (requests_in scenario.lines) (length (setup_in table).writers) heard_view.letters c.read_answers.new.tally tally (sym (ap asked_in letters_same) ∙ all)

@@ -30,11 +30,11 @@ invariant_of-self g c = record {
   played =
       let setup_is = c.requires.table.setup_is in
       let old = view_in c.args.self.now.service in let new = view_in c.collect.new.self in
-      let same = c.audit.ensures.whole (c.turns.invariant ∙ c.requires.ledger.0) in
+      let same = c.audit.ensures.whole (c.turns.invariant ∙ c.requires.turn.whole.0) in
       let total = c.audit.ensures.total in let more = c.add.ensures.total in
       turns_line g.N.HostName.setup g.N.HostName.first g.N.HostName.lines c.args.self.now.book.total c.add.new.self.total (line.Collect c.args.producer)
       g.N.HostName.start old new
-      (subst (λ (n : ℕ). IsNext g.N.HostName.lines n (line.Collect c.args.producer)) (sym c.turns.view_is ∙ same) c.requires.next) (omega (arith, total, more))
+      (subst (λ (n : ℕ). IsNext g.N.HostName.lines n (line.Collect c.args.producer)) (sym c.turns.view_is ∙ same) c.requires.turn.next) (omega (arith, total, more))
       (c.collect.result, subst (λ (s : Setup). Takes s (places_of c.args.producer 0 s.writers) c.collect.result old new) setup_is c.collect.ensures.takes) c.args.self.now.played;
   started = ap (λ (s : SessionValue). s.state) c.collect.ensures.keeps.fields.session ∙ c.args.self.now.started;
   few = subst (λ (l : List Letter). asked_in l ≤ requests_in g.N.HostName.lines) (sym c.collect.ensures.letters) c.args.self.now.few;

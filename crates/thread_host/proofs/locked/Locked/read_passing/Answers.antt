@@ -36,8 +36,8 @@ returns-in-Ok-clause-told g c =
     passed pass before after g.N.HostName.first (ap (λ (setup : Setup). first_of setup core) setup_is ∙ c.args.self.now.began)
     (Ok c.in-Ok.delivered) c.in-Ok.ensures.reads c.read_passing.ensures.passes c.read_passing.ensures.asked)
 
-pub returns-in-Err-clause-torn : goal.returns-in-Err-clause-torn
-returns-in-Err-clause-torn g c =
+pub returns-in-Err-clause-told : goal.returns-in-Err-clause-told
+returns-in-Err-clause-told g c =
     let setup_is = c.requires.table.setup_is in
     let core = core_of c.args.self.now.service in
     let passed = known_by_pass c.args.pass.now in let pass = known_by_pass c.read_passing.new.pass in
@@ -71,10 +71,10 @@ invariant_of-self g c =
       grows = read_grows named (setup_in c.args.table.now) g.N.HostName.lines core c.args.buffer c.args.limit g.N.HostName.start old new before after c.read_passing.result
           c.read_passing.ensures.reads c.read_passing.ensures.fails c.args.self.now.grows;
       played =
-          let same = c.audit.ensures.whole (c.turns.invariant ∙ c.requires.ledger.0) in
+          let same = c.audit.ensures.whole (c.turns.invariant ∙ c.requires.turn.whole.0) in
           let total = c.audit.ensures.total in let one = c.add.ensures.total in let other = c.add-in-Ok.ensures.total in
           turns_line named g.N.HostName.first g.N.HostName.lines c.args.self.now.book.total c.add-in-Ok.new.self.total kind g.N.HostName.start old new
-          (subst (λ (n : ℕ). IsNext g.N.HostName.lines n kind) (sym c.turns.view_is ∙ same) c.requires.next) (omega (arith, total, one, other))
+          (subst (λ (n : ℕ). IsNext g.N.HostName.lines n kind) (sym c.turns.view_is ∙ same) c.requires.turn.next) (omega (arith, total, one, other))
           (c.in-Ok.ensures.reads.notes.view
           ∙ ap (λ (s : Setup). noted_more old (flat_map noted_read (reads_in s core.buffers.items c.args.buffer c.args.limit))) setup_is
           ∙ ap (λ (bs : List Buffer). noted_more old (flat_map noted_read (reads_in named bs c.args.buffer c.args.limit)))
@@ -107,10 +107,10 @@ invariant_of-self-in-Err-1 g c =
       grows = read_grows named (setup_in c.args.table.now) g.N.HostName.lines core c.args.buffer c.args.limit g.N.HostName.start old new before after c.read_passing.result
           c.read_passing.ensures.reads c.read_passing.ensures.fails c.args.self.now.grows;
       played =
-          let same = c.audit.ensures.whole (c.turns.invariant ∙ c.requires.ledger.0) in
+          let same = c.audit.ensures.whole (c.turns.invariant ∙ c.requires.turn.whole.0) in
           let total = c.audit.ensures.total in let one = c.add.ensures.total in
           turns_stop named g.N.HostName.first g.N.HostName.lines c.args.self.now.book.total c.add.new.self.total kind fails.fails.failed g.N.HostName.start old new
-          (subst (λ (n : ℕ). IsNext g.N.HostName.lines n kind) (sym c.turns.view_is ∙ same) c.requires.next) (omega (arith, total, one))
+          (subst (λ (n : ℕ). IsNext g.N.HostName.lines n kind) (sym c.turns.view_is ∙ same) c.requires.turn.next) (omega (arith, total, one))
           (reads_up_to named core c.args.buffer c.args.buffer c.args.limit old new before after fails g.N.HostName.first (history_of old) (history_of new) refl
           (held (setup_in c.args.table.now) named core g.N.HostName.first old setup_is
           (c.args.self.now.serves c.args.table.now c.requires.table).agrees.buffers c.args.self.now.began) fails.notes.history)

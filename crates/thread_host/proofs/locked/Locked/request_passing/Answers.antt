@@ -23,7 +23,7 @@ use Rattle.thread_host.proofs.Turning.{turns_line}
 use Rattle.thread_host.proofs.locked.Locked.request_passing.Goals as goal
 
 pub request_passing-requires-clause-fewer : goal.request_passing-requires-clause-fewer
-request_passing-requires-clause-fewer g c = let room = c.requires.room in let few = c.requires.few in omega (arith, room, few)
+request_passing-requires-clause-fewer g c = let room = c.requires.room.room in let few = c.requires.room.few in omega (arith, room, few)
 
 -- a started session refuses no request
 pub unreachable-requires : goal.unreachable-requires
@@ -44,14 +44,15 @@ returns g c =
     let asked : asked_in pass.letters ≡ asked_in passed.letters + 1 =
     ap (λ (v : ServiceView). asked_in v.letters) (knows ∙ asks) ∙ asked_more (view_in old).letters ∙ ap (λ n. n + 1) calls.goes_on.asked in
     record {
-      pass = calls.pass;
-      known = calls.known;
-      requests = asks;
-      knows = knows;
-      told = λ taken. subst (λ (setup : Setup). TellsLine setup g.N.HostName.first line.Request passed pass taken taken) setup_is
-          (request_tells (setup_in c.args.table.now) (core_of old) g.N.HostName.first passed pass taken
-          (ap (λ (setup : Setup). first_of setup (core_of old)) setup_is ∙ c.args.self.now.began) calls.passes asked);
-      desk = calls.desk;
+      pass = record { passes = calls.pass; known = calls.known };
+      requested = record {
+        requests = asks;
+        knows = knows;
+        told = λ taken. subst (λ (setup : Setup). TellsLine setup g.N.HostName.first line.Request passed pass taken taken) setup_is
+            (request_tells (setup_in c.args.table.now) (core_of old) g.N.HostName.first passed pass taken
+            (ap (λ (setup : Setup). first_of setup (core_of old)) setup_is ∙ c.args.self.now.began) calls.passes asked);
+        desk = calls.desk;
+      };
       turns = let is = c.turns.view_is in let same = c.audit.ensures.amount in let more = c.add.ensures.amount in omega (arith, is, same, more);
     }
 
@@ -69,16 +70,16 @@ invariant_of-self g c =
       own = ap (λ (v : ServiceView). v.commits) asks ∙ c.args.self.now.own;
       grows = request_grows g.N.HostName.setup g.N.HostName.lines g.N.HostName.start (view_in old) (view_in new) asks c.args.self.now.grows;
       played =
-          let same = c.audit.ensures.whole (c.turns.invariant ∙ c.requires.ledger.0) in
+          let same = c.audit.ensures.whole (c.turns.invariant ∙ c.requires.turn.whole.0) in
           let total = c.audit.ensures.total in let more = c.add.ensures.total in
           turns_line g.N.HostName.setup g.N.HostName.first g.N.HostName.lines c.args.self.now.book.total c.add.new.self.total line.Request g.N.HostName.start
           (view_in old) (view_in new)
-          (subst (λ (n : ℕ). IsNext g.N.HostName.lines n line.Request) (sym c.turns.view_is ∙ same) c.requires.next) (omega (arith, total, more)) asks
+          (subst (λ (n : ℕ). IsNext g.N.HostName.lines n line.Request) (sym c.turns.view_is ∙ same) c.requires.turn.next) (omega (arith, total, more)) asks
           c.args.self.now.played;
       started = ap (λ (s : SessionValue). s.state) session ∙ c.args.self.now.started;
       few =
           let more = ap (λ (v : ServiceView). asked_in v.letters) asks ∙ asked_more (view_in old).letters in
-          let went = calls.goes_on.asked in let room = c.requires.room in
+          let went = calls.goes_on.asked in let room = c.requires.room.room in
           omega (arith, more, went, room);
       tallied = subst (λ (v : ServiceView). IsTally (requests_in g.N.HostName.lines) (length g.N.HostName.setup.writers) v.letters c.args.self.now.tally) (sym asks)
           (tally_asked (requests_in g.N.HostName.lines) (length g.N.HostName.setup.writers) (view_in old).letters c.args.self.now.tally c.args.self.now.tallied);

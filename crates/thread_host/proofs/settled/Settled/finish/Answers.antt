@@ -40,7 +40,7 @@ count_buffers-requires-clause-room g c =
     let ok = c.args.self.counts.buffers.ok.0 in
     let lent = ap (λ (xs : List BufferCounts). length xs) c.deref_mut.ensures.value in
     let specs = specs_many c.requires.settled.0 setup (core_of c.read_all.new.service)
-    (first_stays setup (core_of c.close_all.new.service) (core_of c.read_all.new.service) c.in-Ok.ensures.keeps.fields
+    (first_stays setup (core_of c.close_all.new.service) (core_of c.read_all.new.service) c.in-Ok.ensures.stays.keeps.fields
     ∙ c.close_all.ensures.first ∙ is.served.began) in
     omega (arith, many, ok, lent, specs)
 
@@ -58,7 +58,7 @@ take_apart-requires-clause-seats g c =
     let is = c.requires.settled.1 in
     let closing = c.close_all.ensures in
     has_all_seats c.requires.settled.0 c.args.self is c.close_all.new.service c.read_all.new.service
-    (record { closes = closing.closes; all_closed = closing.closed; first = closing.first; keeps = c.in-Ok.ensures.keeps; serves = c.in-Ok.ensures.serves })
+    (record { closes = closing.closes; all_closed = closing.closed; first = closing.first; keeps = c.in-Ok.ensures.stays.keeps; serves = c.in-Ok.ensures.stays.serves })
     c.read_all.new.pass (g.T.Sink.taken c.args.out.now) (g.T.Sink.taken c.read_all.new.out) c.len.result (c.len.ensures ∙ is.buffers) c.in-Ok.ensures.reads
 
 -- the worlds that were marked are those that were when all was settled
@@ -71,7 +71,7 @@ pub returns-in-Ok-clause-done : goal.returns-in-Ok-clause-done
 returns-in-Ok-clause-done g c scenario is =
     let table = c.args.self.table in
     let setup = setup_in table in
-    let serves = c.in-Ok.ensures.serves in
+    let serves = c.in-Ok.ensures.stays.serves in
     let final = c.read_all.new.service in
     let buffers : List BufferCounts = c.count_buffers.new.buffers in
     let sequences : List SequenceCounts = c.count_sequences.new.sequences in
@@ -79,7 +79,7 @@ returns-in-Ok-clause-done g c scenario is =
     let ok = c.args.self.counts.sequences.ok.0 in
     let long = c.count_sequences.ensures.room in
     let specs = specs_many scenario setup (core_of final)
-    (first_stays setup (core_of c.close_all.new.service) (core_of final) c.in-Ok.ensures.keeps.fields ∙ c.close_all.ensures.first ∙ is.served.began) in
+    (first_stays setup (core_of c.close_all.new.service) (core_of final) c.in-Ok.ensures.stays.keeps.fields ∙ c.close_all.ensures.first ∙ is.served.began) in
     let counted : length buffers ≡ length scenario.buffers =
     ap (λ (xs : List BufferCounts). length xs) (c.count_buffers.ensures table serves) ∙ length-map (buffers_in setup final) answers.counts_of ∙ buffers_long setup final ∙ specs in
     let same = with_items_is c.args.self.counts.sequences sequences (omega (arith, long, lent, ok)) in
@@ -88,9 +88,9 @@ returns-in-Ok-clause-done g c scenario is =
     (let own = is.sequences in let there = ap (λ (ws : List WriterSpec). length ws) (setup_writers scenario setup is.laid) in omega (arith, long, lent, ok, own, there)) in
     let closing = c.close_all.ensures in
     has_finished scenario c.args.self is c.close_all.new.service final
-    (record { closes = closing.closes; all_closed = closing.closed; first = closing.first; keeps = c.in-Ok.ensures.keeps; serves = serves })
+    (record { closes = closing.closes; all_closed = closing.closed; first = closing.first; keeps = c.in-Ok.ensures.stays.keeps; serves = serves })
     c.read_all.new.pass (g.T.Sink.taken c.args.out.now) (g.T.Sink.taken c.read_all.new.out) c.len.result (c.len.ensures ∙ is.buffers) c.in-Ok.ensures.reads
-    (settled_account c.args.self c.read_all.new.service (c.in-Ok.ensures.marks ∙ ap (λ (d : Desk). d.marks) closing.desk) c.take_apart.ensures.account) c.take_apart.ensures.taken c.take_apart.ensures.goes_on c.in-Ok.ensures.known
+    (settled_account c.args.self c.read_all.new.service (c.in-Ok.ensures.stays.marks ∙ ap (λ (d : Desk). d.marks) closing.desk) c.take_apart.ensures.account) c.take_apart.ensures.taken c.take_apart.ensures.goes_on c.in-Ok.ensures.pass.known
     (record { buffers = with_items counts.buffers buffers; sequences = with_items counts.sequences sequences; flushes = counts.flushes; raws = counts.raws })
     (with_items_is counts.buffers buffers (counted ∙ sym is.buffers) ∙ c.count_buffers.ensures table serves)
     (ap (λ (xs : List SequenceCounts). length xs) same ∙ wide)
@@ -105,13 +105,13 @@ take_apart-requires-in-Err-clause-seats g c =
     let is = c.requires.settled.1 in
     let closing = c.close_all.ensures in
     seats_back c.requires.settled.0 c.args.self is c.close_all.new.service c.read_all.new.service
-    (record { closes = closing.closes; all_closed = closing.closed; first = closing.first; keeps = c.in-Err.ensures.keeps; serves = c.in-Err.ensures.serves })
-    c.read_all.new.pass (g.T.Sink.taken c.args.out.now) (g.T.Sink.taken c.read_all.new.out) c.len.result (c.len.ensures ∙ is.buffers) c.in-Err.ensures.fails
+    (record { closes = closing.closes; all_closed = closing.closed; first = closing.first; keeps = c.in-Err.ensures.stays.keeps; serves = c.in-Err.ensures.stays.serves })
+    c.read_all.new.pass (g.T.Sink.taken c.args.out.now) (g.T.Sink.taken c.read_all.new.out) c.len.result (c.len.ensures ∙ is.buffers) c.in-Err.ensures.reads
 
 pub returns-in-Err-clause-fails : goal.returns-in-Err-clause-fails
 returns-in-Err-clause-fails g c scenario is =
     let closing = c.close_all.ensures in
     has_failed scenario c.args.self is c.close_all.new.service c.read_all.new.service
-    (record { closes = closing.closes; all_closed = closing.closed; first = closing.first; keeps = c.in-Err.ensures.keeps; serves = c.in-Err.ensures.serves })
-    c.read_all.new.pass (g.T.Sink.taken c.args.out.now) (g.T.Sink.taken c.read_all.new.out) c.len.result (c.len.ensures ∙ is.buffers) c.in-Err.ensures.fails
-    (settled_account c.args.self c.read_all.new.service (c.in-Err.ensures.marks ∙ ap (λ (d : Desk). d.marks) closing.desk) c.take_apart-in-Err.ensures.account) c.take_apart-in-Err.ensures.taken c.take_apart-in-Err.ensures.goes_on c.in-Err.ensures.known
+    (record { closes = closing.closes; all_closed = closing.closed; first = closing.first; keeps = c.in-Err.ensures.stays.keeps; serves = c.in-Err.ensures.stays.serves })
+    c.read_all.new.pass (g.T.Sink.taken c.args.out.now) (g.T.Sink.taken c.read_all.new.out) c.len.result (c.len.ensures ∙ is.buffers) c.in-Err.ensures.reads
+    (settled_account c.args.self c.read_all.new.service (c.in-Err.ensures.stays.marks ∙ ap (λ (d : Desk). d.marks) closing.desk) c.take_apart-in-Err.ensures.account) c.take_apart-in-Err.ensures.taken c.take_apart-in-Err.ensures.goes_on c.in-Err.ensures.pass.known
