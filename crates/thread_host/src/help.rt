@@ -7,6 +7,7 @@ ghost use Rattle.thread_host.specs.Keeping.{IsNamed, named_prop};
 use crate::locked::{Locked, Takings};
 use crate::name::HostName;
 use chunk_words::HostTable;
+use crossbeam_utils::Backoff;
 use std::sync::ledger::Ledger;
 use std::sync::{Mutex, Wait};
 use thread_writer::Helper;
@@ -21,6 +22,8 @@ pub struct LockHelp<'a, N: HostName, R: Wait, L: Ledger> {
     producer: u16,
     left: u64,
     takings: Takings<L>,
+    /// How long it pauses where nothing was taken.
+    backoff: Backoff,
     ghost named: { IsNamed N.table N.setup table.now } by { named_prop N.table N.setup table.now },
     ghost wanted: { has_asker N.setup N.lines producer ≡ true },
 }
@@ -46,6 +49,7 @@ impl<'a, N: HostName, R: Wait, L: Ledger> LockHelp<'a, N, R, L> {
             producer,
             left: u64::MAX,
             takings,
+            backoff: Backoff::new(),
         }
     }
 
@@ -60,6 +64,7 @@ impl<'a, N: HostName, R: Wait, L: Ledger> LockHelp<'a, N, R, L> {
             producer: _,
             left: _,
             takings,
+            backoff: _,
         } = self;
         takings
     }
@@ -90,11 +95,21 @@ impl<'a, N: HostName, R: Wait, L: Ledger> Helper for LockHelp<'a, N, R, L> {
             unreachable!()
         }
         self.left -= 1;
-        let _taken = self
+        let taken = self
             .service
             .lock(self.rt)
             .collect(self.table, self.producer, &mut self.takings);
+        pause(&self.backoff, taken);
         true
+    }
+}
+
+/// A pause where the service found no chunk to take, longer each time, so that those get on who hold them.
+fn pause(backoff: &Backoff, taken: u64) {
+    if taken == 0 {
+        backoff.snooze();
+    } else {
+        backoff.reset();
     }
 }
 
