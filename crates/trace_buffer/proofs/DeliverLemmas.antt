@@ -1,10 +1,10 @@
 -- Deliveries one behind another are one change of the sequence.
-use Rattle.std.proofs.Common.{◌≡◌, ℕ, zero, suc, ◌+◌, ◌<◌, ◌==◌, Bool, true, false, cond, List, [], ◌∷◌, refl, sym, ap, ap₂, ◌∙◌, arith}
+use Rattle.std.proofs.Common.{◌≡◌, ℕ, zero, suc, ◌<◌, ◌==◌, Bool, true, false, cond, List, [], ◌∷◌, refl, sym, ap, ap₂, ◌∙◌, arith}
 use Rattle.trace_model.specs.Buffers.{Buffer}
 use Rattle.trace_model.specs.Counts.{raised}
 use Rattle.trace_model.specs.Reads.{Delivers, advanced}
 use Rattle.trace_model.specs.Sequences.{Sequence, Cursor, changed_at}
-use Rattle.trace_model.proofs.CountedLemmas.{raised-none, raised-raised}
+use Rattle.trace_model.proofs.CountedLemmas.{raised-none}
 use Rattle.trace_buffer.specs.Calls.{with_advance, with_deliveries, delivered_to}
 
 -- two changes of one sequence are one

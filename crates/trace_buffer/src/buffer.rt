@@ -261,6 +261,7 @@ impl TraceBuffer {
     }
 
     /// What becomes of a record that is neither a double nor too far.
+    #[inline(always)]
     fn placing(&self, sequence: u32, chunk_id: u32) -> Arrived
         requires { is_known self.now.sequences sequence ≡ true }
         ensures { arrived_value result ≡ placing_of self.now sequence chunk_id }
@@ -330,6 +331,7 @@ impl TraceBuffer {
     }
 
     /// Does to records and losses what the outcome says.
+    #[inline(always)]
     fn settle(&mut self, outcome: Arrived, key: RecordKey, payload: &[u8])
         requires key { (key.count ≤ MAX_FRAGMENTS) × (key.flags ≤ MAX_FLAGS) }
         requires known { is_known self.old.sequences key.sequence ≡ true }
