@@ -29,8 +29,8 @@ pub struct CloneCount {
     pub delivered: u64,
 }
 
-/// The most bytes of the line of a clone.
-const LINE_ROOM: usize = 128;
+/// The most bytes of the line of a clone, or of that of a stream's commits.
+pub(crate) const LINE_ROOM: usize = 128;
 
 /// Writes a name and its number behind what there is of a line.
 pub(crate) fn push_number(line: &mut ArrayVec<u8, LINE_ROOM>, name: &[u8], value: u64)

@@ -15,7 +15,7 @@ ghost use Rattle.tracesmb_top.specs.Streamed as streamed;
 ghost use Rattle.tracesmb_top.specs.Streamed.{HasFault, stream_text};
 
 use crate::check::find_divider;
-use crate::cloning::push_number;
+use crate::cloning::{LINE_ROOM, push_number};
 use crate::commands::CommandFault;
 use crate::report::Report;
 use crate::say::offset_line;
@@ -76,9 +76,6 @@ fn find_fault(config: &Config, stream: &[u8]) -> Option<ArrayVec<u8, 64>>
         Err(StreamFault::WriteFault) => unreachable!(),
     }
 }
-
-/// The most bytes of the line of commits.
-const LINE_ROOM: usize = 128;
 
 /// `stream commits N refused N`, with its line feed.
 #[tactic(auto, unfolding(crate::specs::Streamed::commits_line))]
