@@ -1,0 +1,14 @@
+pub mod CallLemmas
+pub mod CloseLemmas
+pub mod EndLemmas
+pub mod EventLemmas
+pub mod HomeLemmas
+pub mod HousedLemmas
+pub mod NewLemmas
+pub mod OnceLemmas
+pub mod PlanLemmas
+pub mod ReadLemmas
+pub mod SessionLemmas
+pub mod StopLemmas
+pub mod SessionBox
+pub mod WriterBox

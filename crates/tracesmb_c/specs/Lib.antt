@@ -1,0 +1,15 @@
+pub mod Answering
+pub mod Ending
+pub mod Eventing
+pub mod Handles
+pub mod Lending
+pub mod Losing
+pub mod Planning
+pub mod Served
+pub mod SessionOpened
+pub mod SessionOwning
+pub mod Sessions
+pub mod Unread
+pub mod Waits
+pub mod WriterOpened
+pub mod WriterOwning
