@@ -1,0 +1,29 @@
+/* The memory of the library, by the program's own malloc. It is linked beside the library. */
+#include <stdbool.h>
+#include <stddef.h>
+#include <stdlib.h>
+
+struct tried {
+    bool ok;
+    void *at;
+};
+
+struct tried rattle_alloc(size_t size, size_t align);
+struct tried rattle_realloc(void *at, size_t kept, size_t size, size_t align);
+void rattle_dealloc(void *at);
+
+static char nothing;
+
+static struct tried tried(void *at) {
+    struct tried answer = {at != NULL, at != NULL ? at : &nothing};
+    return answer;
+}
+
+struct tried rattle_alloc(size_t size, size_t align) { return tried(malloc(size != 0 ? size : align)); }
+
+struct tried rattle_realloc(void *at, size_t kept, size_t size, size_t align) {
+    (void)kept;
+    return tried(realloc(at, size != 0 ? size : align));
+}
+
+void rattle_dealloc(void *at) { free(at); }
