@@ -4,7 +4,7 @@ ghost use Rattle.std.specs.Prelude.{◌≡◌, ◌-◌, ◌<◌, ◌≤◌, [], 
 ghost use Rattle.chunk_words.specs.Knows.{service_of};
 ghost use Rattle.chunk_words.specs.Sits.{Attends, setup_in};
 ghost use Rattle.table_speed.specs.Taking.{HasTakenEach, HasTakenNone, TakesOne, TakesNone, count_of};
-ghost use Rattle.table_speed.specs.Timed.{IsTimed, BeginAtNought, BeginsAtNought};
+ghost use Rattle.table_speed.specs.Timed.{BeginAtNought, BeginsAtNought};
 
 use chunk_words::{HostTable, ServiceSeat};
 use page_geometry::ChunkHeader;

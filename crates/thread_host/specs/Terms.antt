@@ -100,8 +100,8 @@ pub record MayPlayLine (parts all : ℕ) (setup : Setup) (lines : List NumberedL
 -- ---- what the lock keeps
 
 -- The service is one of the table that a name stands for, none of whose sequences is closed, and no image came by a commit. What it knows is what it knew
--- at the start, and what these lines and the writers' helpers may have added. The tally is of the answers that it has read, and its session keeps just the
--- newest of them.
+-- at the start, and what these lines and the writers' helpers may have added, and of flush requests no more than the lines make; its session is started.
+-- The tally is of the answers that it has read, and its session keeps just the newest of them.
 pub record IsKept (id : TableId) (setup : Setup) (first : List Buffer) (lines : List NumberedLine) (start : ServiceView) (service : Service) (tally : Tally) : Type 0 where
   pub serves : ServesNamed id setup service
   pub opened : AllOpen setup service
@@ -218,14 +218,14 @@ pub record StaysHost (scenario : Parts) (old new : Host) : Type 0 where
   pub host : IsHost scenario new
   pub table : new.table ≡ old.table
 
--- What the service knows grew, and its own lines were played.
+-- What the service knows grew, and its own lines were played, up to the write that failed where one did.
 pub record ServiceRuns {A E : Type 0} (setup : Setup) (first : List Buffer) (lines : List NumberedLine) (before after : Option Service) (result : Result A E) : Type 0 where
   pub grows : IfSome before (λ old. IfSome after (λ new. Grows setup lines (view_in old) (view_in new)))
   pub played : MatchResult result
       (λ _. IfSome before (λ old. IfSome after (λ new. PlaysAll setup first lines (view_in old) (view_in new))))
       (λ _. IfSome before (λ old. IfSome after (λ new. PlaysSome setup first lines (view_in old) (view_in new))))
 
--- the writers have done their lines, and answered so many flush requests
+-- the writers have done their lines, and each answered the last of so many flush requests, where some were made
 pub record HaveRun (lines : List NumberedLine) (table : HostTable) (requests : ℕ) (writers : List TraceWriter) : Type 0 where
   pub played : HavePlayed lines last_flushes table writers
   pub answered : HaveAnswered requests writers

@@ -1,5 +1,5 @@
 //! The jobs of a run, beside each other.
-ghost use Rattle.std.specs.Prelude.{◌≡◌, ◌<◌, [], ◌∷◌, length};
+ghost use Rattle.std.specs.Prelude.{◌<◌, [], ◌∷◌, length};
 ghost use Rattle.trace_model.specs.Calls.{Flushed};
 ghost use Rattle.thread_host.specs.Hosts.{HasPlayed, HavePlayedFrom, IsReady};
 ghost use Rattle.thread_host.specs.Terms.{AreNamed, AreReadyNamed, Begins, ComesBack, IsBlankOf, MayPlay, PlaysJob};
