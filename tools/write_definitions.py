@@ -5,7 +5,8 @@
     tools/write_definitions.py --check    says what lacks a comment, and whether the page is fresh; status 1 where not
 
 Each crate of crates.txt has a section, each file of its specs/ a part with the comment at the file's head, and each public
-definition an entry: how it is written, and the comment in front of it. Laws (`*Laws` files) and worked rows are listed too.
+definition an entry: how it is written, and the comment in front of it. Laws (`*Laws` files) and worked rows are listed too. The
+last section has the names that stand in more than one crate.
 """
 import os
 import re
@@ -19,6 +20,12 @@ Each public definition of `specs/`, by crates, lowest first, in the words of the
 `tools/write_definitions.py`: change the comment, and write the page again. "The encoding" is the protocol-buffers encoding document;
 "the ABI" is the header of Perfetto's shared memory ABI; "the buffers document" is Perfetto's "Buffers and dataflow". What none of
 them fixes is this project's profile.
+'''
+SHARED = '''
+## Names that stand in several crates
+
+Each of these {} names is defined in each of the crates behind it. What a page or a contract cites is that of the crate which it names.
+
 '''
 DEFINES = re.compile(r'^(?:(?:abbrev|unfoldable|opaque)\s+)?pub\s+(?:(record|data)\s+)?([^\s:({]+)')
 
@@ -93,8 +100,14 @@ def entries(path):
     return said(head), found
 
 
+def shared(places):
+    """The section of the names that several crates define."""
+    rows = [f'- `{name}`: {", ".join(f"`{crate}`" for crate in found)}' for name, found in sorted(places.items()) if len(found) > 1]
+    return SHARED.format(len(rows)) + '\n'.join(rows) + '\n'
+
+
 def page():
-    parts, lacking = [HEAD], []
+    parts, lacking, places = [HEAD], [], {}
     for crate in crates():
         listed = [(name, path, *entries(path)) for name, path in files(crate)]
         if not any(found for _, _, _, found in listed):
@@ -106,6 +119,8 @@ def page():
             parts.append(f'\n### `crates/{crate}/specs/{name}.antt`\n\n{head}\n' if head else f'\n### `crates/{crate}/specs/{name}.antt`\n')
             rows, names = [], []
             for short, way, comment in found:
+                if crate not in places.setdefault(short, []):
+                    places[short].append(crate)
                 names.append(way)
                 if comment:
                     rows.append('- ' + ', '.join(f'`{it}`' for it in names) + f': {comment}')
@@ -115,6 +130,7 @@ def page():
                     rows.append(f'- `{way}`')
                     names = []
             parts.append('\n' + '\n'.join(rows) + '\n')
+    parts.append(shared(places))
     return ''.join(parts), lacking
 
 

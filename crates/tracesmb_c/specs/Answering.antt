@@ -28,10 +28,12 @@ abbrev pub MayWriteNumber : (field value : ℕ) → Option OwnedWriter → Type 
 MayWriteNumber field value writer = Has writer (λ owned. (in_packet (view_of owned) ≡ true) × IsField field
     × (field_fault (view_of owned) field (length (number_field field value)) ≡ None))
 
+-- it may write a text: its packet is begun, the field fits, and so does what the packet has then
 abbrev pub MayWriteText : (field : ℕ) → List ℕ → Option OwnedWriter → Type 0
 MayWriteText field text writer = Has writer (λ owned. (in_packet (view_of owned) ≡ true) × IsField field × (length text ≤ MAX_INPUT)
     × (field_fault (view_of owned) field (bytes_size field 1 text) ≡ None))
 
+-- it may begin a nested message: its packet is begun, the field fits, and so do its depth and its length
 abbrev pub MayNest : (field : ℕ) → Option OwnedWriter → Type 0
 MayNest field writer = Has writer (λ owned. (in_packet (view_of owned) ≡ true) × IsField field
     × (nested_fault (view_of owned) field ≡ None))

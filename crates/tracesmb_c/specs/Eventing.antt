@@ -34,6 +34,7 @@ name_calls (byte ∷ name) = Bytes 23 (byte ∷ name) 1 ∷ []
 abbrev pub value_calls : (kind value : ℕ) → List Call
 value_calls kind value = if kind == COUNTER then Number 30 value ∷ [] else []
 
+-- all fields of an event, in the order in which they are written
 abbrev pub field_calls : (kind time track value : ℕ) → (name : List ℕ) → List Call
 field_calls kind time track value name = head_calls kind time track ++ (name_calls name ++ value_calls kind value)
 

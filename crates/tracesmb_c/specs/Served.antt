@@ -47,6 +47,7 @@ pub record IsAwayFrom (session : OwnedSession) (lent : OwnedWriter) : Type 0 whe
   pub away : slice_get session.homes.items (lent.number - 1) ≡ Some None
   pub none_begun : in_packet (view_of lent) ≡ false
 
+-- what a session may take back: a writer that is away from it
 abbrev pub MayTakeBack : Option OwnedSession → Option OwnedWriter → Type 0
 MayTakeBack None writer = ⊥
 MayTakeBack (Some session) None = ⊥
