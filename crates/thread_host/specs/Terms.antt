@@ -87,8 +87,9 @@ pub record MayRequest (lines : List NumberedLine) (pass : ReadPass) : Type 0 whe
   pub room : asked_in (known_by_pass pass).letters < requests_in lines
   pub few : requests_in lines < MOST_REQUESTS
 
--- One of the lines may be played, where so many turns were taken: if it is the service's own it is the next one of these; and it collects and scrapes
--- what these lines may, and makes no more flush requests than they do.
+-- A line of this kind may be played by whoever has all parts of the ledger, where so many turns were taken: if it is one of the service's own, it is the
+-- next one of these. Somebody may have collected what it collects, and one of the lines scrapes what it scrapes. Where it makes a flush request, the pass
+-- knows of fewer than the lines make; and these can be counted.
 pub record MayPlayLine (parts all : ℕ) (setup : Setup) (lines : List NumberedLine) (turns : ℕ) (kind : LineKind) (pass : ReadPass) : Type 0 where
   pub whole : IsWhole parts all
   pub next : is_service_line kind ≡ true → IsNext lines turns kind
@@ -122,7 +123,7 @@ pub record Begins (id : TableId) (setup : Setup) (first : List Buffer) (lines : 
 abbrev pub PlaysFar : {A E : Type 0} → Setup → List Buffer → List NumberedLine → (start now : ServiceView) → Result A E → Type 0
 PlaysFar setup first lines start now result = MatchResult result (λ _. PlaysAll setup first lines start now) (λ _. PlaysSome setup first lines start now)
 
--- So it is at the end of a run, whose lines were played.
+-- So it is kept at the end of a run, whose own lines of the service were played: all of them, or up to the write that failed.
 pub record ComesBack {A E : Type 0} (id : TableId) (setup : Setup) (first : List Buffer) (lines : List NumberedLine) (start : ServiceView) (service : Service) (tally : Tally)
     (result : Result A E) : Type 0 where
   pub kept_is : IsKept id setup first lines start service tally
@@ -177,17 +178,18 @@ pub record HasTally (table : HostTable) (service : Service) (tally : Tally) : Ty
   pub tallied : (requests : ℕ) × IsTally requests (length (setup_in table).writers) (view_in service).letters tally
   pub room : asked_in (view_in service).letters ≤ vec_len tally.sums
 
--- Answers were read: the tally is of these too, the session keeps just the newest of them where it did before, and of the service nothing else changed.
-pub record LeavesTally (table : HostTable) (old new : Service) (told tally : Tally) : Type 0 where
+-- Answers were read: the tally is of these too, where the one before was of those that were read before; the session keeps just the newest of them where it
+-- did before; and of the service nothing else changed.
+pub record LeavesTally (table : HostTable) (old new : Service) (before after : Tally) : Type 0 where
   pub desk : desk_in new ≡ desk_in old
   pub keeps : KeepsTaking (record (core_of old) { seat = (core_of new).seat }) (core_of new)
   pub session : KeepsSession (core_of old).session (core_of new).session
   pub kept : KeepsAnswers (length (setup_in table).writers) (view_in old).letters (core_of old).session
       → KeepsAnswers (length (setup_in table).writers) (view_in new).letters (core_of new).session
-  pub tallied : (requests : ℕ) → IsTally requests (length (setup_in table).writers) (view_in old).letters told
-      → IsTally requests (length (setup_in table).writers) (view_in new).letters tally
+  pub tallied : (requests : ℕ) → IsTally requests (length (setup_in table).writers) (view_in old).letters before
+      → IsTally requests (length (setup_in table).writers) (view_in new).letters after
 
--- A writer told the service what it began, and nothing changed but what the seat heard.
+-- The service may have been told something: it still serves the table and knows what it knew, and nothing of it changed but its seat.
 pub record OnlyLearns (table : HostTable) (old new : Service) : Type 0 where
   pub serves : Serves table new
   pub view : view_in new ≡ view_in old

@@ -5,17 +5,16 @@ ghost use Rattle.run_model.specs.Collected.{has_asker};
 ghost use Rattle.thread_host.specs.Keeping.{IsNamed, named_prop};
 
 use crate::locked::{Locked, Takings};
-use crate::name::HostName;
+use crate::name::{HostName, TakingsName};
 use chunk_words::HostTable;
 use crossbeam_utils::Backoff;
-use std::sync::ledger::Ledger;
 use std::sync::{Mutex, Wait};
 use thread_writer::Helper;
 
 /// Helps by the lock, as often as a `u64` counts, and then waits for ever. It counts how often it had
-/// chunks taken.
+/// chunks of its producer taken.
 #[derive(Drop)]
-pub struct LockHelp<'a, N: HostName, R: Wait, L: Ledger> {
+pub struct LockHelp<'a, N: HostName, R: Wait, L: TakingsName> {
     rt: &'a R,
     table: &'a HostTable,
     service: &'a Mutex<Locked<N>>,
@@ -25,10 +24,11 @@ pub struct LockHelp<'a, N: HostName, R: Wait, L: Ledger> {
     /// How long it pauses where nothing was taken.
     backoff: Backoff,
     ghost named: { IsNamed N.table N.setup table.now } by { named_prop N.table N.setup table.now },
-    ghost wanted: { has_asker N.setup N.lines producer ≡ true },
+    ghost wanted: { has_asker N.setup N.lines L.producer ≡ true },
+    ghost own: { producer ≡ L.producer },
 }
 
-impl<'a, N: HostName, R: Wait, L: Ledger> LockHelp<'a, N, R, L> {
+impl<'a, N: HostName, R: Wait, L: TakingsName> LockHelp<'a, N, R, L> {
     /// Of a writer of this producer.
     pub fn new(
         rt: &'a R,
@@ -38,7 +38,8 @@ impl<'a, N: HostName, R: Wait, L: Ledger> LockHelp<'a, N, R, L> {
         takings: Takings<L>,
     ) -> LockHelp<'a, N, R, L>
         requires table { IsNamed N.table N.setup table.now }
-        requires asked { has_asker N.setup N.lines producer ≡ true }
+        requires asked { has_asker N.setup N.lines L.producer ≡ true }
+        requires own { producer ≡ L.producer }
         ensures turns { result.left ≡ u64.MAX }
         ensures takings { result.takings ≡ takings }
     {
@@ -70,7 +71,7 @@ impl<'a, N: HostName, R: Wait, L: Ledger> LockHelp<'a, N, R, L> {
     }
 }
 
-impl<'a, N: HostName, R: Wait, L: Ledger> Helper for LockHelp<'a, N, R, L> {
+impl<'a, N: HostName, R: Wait, L: TakingsName> Helper for LockHelp<'a, N, R, L> {
     ghost use Rattle.std.specs.Prelude.{◌≡◌, ◌-◌, true, suc};
     ghost use Rattle.trace_model.specs.Counts.{raised, last_count};
 

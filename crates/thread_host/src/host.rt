@@ -111,10 +111,12 @@ impl Host {
         requires unasked { asked_in (known_by_pass self.old.pass).letters ≡ 0 }
         requires may { T.may_write out.old }
         ensures host { StaysHost (parts_of scenario.now) self.old self.new }
-        ensures service { ServiceRuns (setup_in self.old.table) (buffers_of (parts_of scenario.now) (setup_in self.old.table)) scenario.now.lines
+        ensures service { ServiceRuns (setup_in self.old.table)
+            (buffers_of (parts_of scenario.now) (setup_in self.old.table)) scenario.now.lines
             self.old.service self.new.service result }
         ensures writers { HaveRun scenario.now.lines self.new.table (asked_in (known_by_pass self.new.pass).letters) writers.new.items }
-        ensures job { PlaysJob (setup_in self.old.table) (buffers_of (parts_of scenario.now) (setup_in self.old.table)) scenario.now.lines self.old.table
+        ensures job { PlaysJob (setup_in self.old.table)
+            (buffers_of (parts_of scenario.now) (setup_in self.old.table)) scenario.now.lines self.old.table
             (record { pass = self.old.pass; taken = T.taken out.old; faults = T.faults out.old })
             (record { pass = self.new.pass; taken = T.taken out.new; faults = T.faults out.new }) (T.may_write out.new) result }
     {
@@ -137,10 +139,12 @@ impl Host {
         requires unasked { asked_in (known_by_pass self.old.pass).letters ≡ 0 }
         requires may { T.may_write out.old }
         ensures host { StaysHost (parts_of scenario.now) self.old self.new }
-        ensures service { ServiceRuns (setup_in self.old.table) (buffers_of (parts_of scenario.now) (setup_in self.old.table)) scenario.now.lines
+        ensures service { ServiceRuns (setup_in self.old.table)
+            (buffers_of (parts_of scenario.now) (setup_in self.old.table)) scenario.now.lines
             self.old.service self.new.service result }
         ensures played { HavePlayed scenario.now.lines (Flushed ∷ []) self.new.table writers.new.items }
-        ensures job { PlaysJob (setup_in self.old.table) (buffers_of (parts_of scenario.now) (setup_in self.old.table)) scenario.now.lines self.old.table
+        ensures job { PlaysJob (setup_in self.old.table)
+            (buffers_of (parts_of scenario.now) (setup_in self.old.table)) scenario.now.lines self.old.table
             (record { pass = self.old.pass; taken = T.taken out.old; faults = T.faults out.old })
             (record { pass = self.new.pass; taken = T.taken out.new; faults = T.faults out.new }) (T.may_write out.new) result }
     {

@@ -29,7 +29,7 @@ pub use help::{IdleHelp, LockHelp};
 pub use host::Host;
 pub use job::service_job;
 pub use locked::{Locked, Readings, Takings, Turns};
-pub use name::HostName;
+pub use name::{HostName, TakingsName};
 pub use settled::Settled;
 pub use tally::Tally;
 pub use whole::run;

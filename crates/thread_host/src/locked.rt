@@ -20,7 +20,7 @@ ghost use Rattle.thread_host.specs.Tally.{IsTally, KeepsAnswers, KeepsSession, a
 ghost use Rattle.thread_host.specs.Terms.{EndsTurn, HasRequested, HasTurn, IsBlankOf, IsKept, KnowsWhole, MayRequest, ReadsWith};
 ghost use Rattle.thread_host.specs.Turns.{PlaysTurns};
 
-use crate::name::HostName;
+use crate::name::{HostName, TakingsName};
 use crate::reading::read_answers;
 use crate::tally::Tally;
 use byte_io::put::WriteFault;
@@ -31,15 +31,16 @@ use std::sync::ledger::{Blank, Book, Ledger, Share};
 use thread_service::Service;
 use trace_base::steps::Steps;
 
-/// How often helpers asked the service to take chunks. Contracts see a number; it takes no bytes when the
-/// program runs. Nothing raises it but the call of `Locked` by which they ask: a body that says that it
-/// asked for them so often did so, on this service or on another one of the same name.
+/// How often helpers asked the service to take the chunks of the producer that the type names. Contracts
+/// see a number; it takes no bytes when the program runs. Nothing raises it but the call of `Locked` by
+/// which they ask: a body that says that it asked for them so often did so, on this service or on another
+/// one of the same name.
 #[derive(Drop)]
-pub struct Takings<L: Ledger> {
+pub struct Takings<L: TakingsName> {
     steps: Steps<L>,
 }
 
-impl<L: Ledger> Model for Takings<L> {
+impl<L: TakingsName> Model for Takings<L> {
     ghost use Rattle.std.specs.Prelude.{ℕ};
 
     ghost Value = { ℕ };
@@ -47,7 +48,7 @@ impl<L: Ledger> Model for Takings<L> {
     ghost view = { λ takings. takings.steps };
 }
 
-impl<L: Ledger> Takings<L> {
+impl<L: TakingsName> Takings<L> {
     /// None yet, on a ledger of its own.
     pub fn new(blank: Blank) -> Self
         requires { IsBlankOf L.name L.parts blank }
@@ -185,15 +186,16 @@ impl<N: HostName> Locked<N> {
     }
 
     /// Takes the complete chunks of the producer's writers. Answers how many. A writer of the producer asks
-    /// for it, by its helper.
-    pub fn collect<L: Ledger>(
+    /// for it, by its helper, and it is the one whose takings are counted.
+    pub fn collect<L: TakingsName>(
         &mut self,
         table: &HostTable,
         producer: u16,
         takings: &mut Takings<L>,
     ) -> u64
         requires table { IsNamed N.table N.setup table.now }
-        requires asked { has_asker N.setup N.lines producer ≡ true }
+        requires asked { has_asker N.setup N.lines L.producer ≡ true }
+        requires own { producer ≡ L.producer }
         ensures keeps { KeepsRest N.setup (core_of self.old.service) (core_of self.new.service) }
         ensures takes { Takes N.setup (places_of producer 0 N.setup.writers) result
             (view_in self.old.service) (view_in self.new.service) }

@@ -1,4 +1,4 @@
-//! Which table a service is one of, as a type can name it.
+//! Which table a service is one of, and whose chunks are taken, as a type can name them.
 use std::marker::Brand;
 use std::sync::ledger::Ledger;
 
@@ -46,4 +46,16 @@ impl HostName for Brand {
     ghost lines = { [] };
 
     ghost all = { 1 };
+}
+
+/// The producer whose chunks helpers have taken, known in proofs alone. Its ledger is the one on which
+/// stands how often.
+pub trait TakingsName: Ledger {
+    ghost use Rattle.std.specs.Prelude.{ℕ};
+
+    ghost producer: { ℕ };
+}
+
+impl TakingsName for Brand {
+    ghost producer = { 0 };
 }

@@ -1,12 +1,13 @@
 //! The jobs of a run, beside each other.
-ghost use Rattle.std.specs.Prelude.{◌<◌, [], ◌∷◌, length};
+ghost use Rattle.std.specs.Prelude.{◌≡◌, ◌<◌, [], ◌∷◌, length};
 ghost use Rattle.trace_model.specs.Calls.{Flushed};
+ghost use Rattle.chunk_plain.specs.Setup.{producer_of};
 ghost use Rattle.thread_host.specs.Hosts.{HasPlayed, HavePlayedFrom, IsReady};
 ghost use Rattle.thread_host.specs.Terms.{AreNamed, AreReadyNamed, Begins, ComesBack, IsBlankOf, MayPlay, PlaysJob};
 
 use crate::job::service_job;
 use crate::locked::{Locked, Readings, Takings, Turns};
-use crate::name::HostName;
+use crate::name::{HostName, TakingsName};
 use crate::tally::Tally;
 use crate::writing::writer_job;
 use byte_io::put::WriteFault;
@@ -104,7 +105,7 @@ fn start_both<N: HostName + Send + Sync, R: Threads + Wait + Sync, G: Gate + Syn
     join_mut(rt, &mut play_first, &mut start_rest);
 }
 
-/// A writer's job, with a count of its own of how often it has chunks taken.
+/// A writer's job, with a count of its own of how often it has chunks of its producer taken.
 fn counted_job<N: HostName, R: Wait, G: Gate>(
     rt: &R,
     gate: &G,
@@ -133,7 +134,7 @@ fn counted_job<N: HostName, R: Wait, G: Gate>(
 }
 
 /// The job, with that count on the ledger of a blank.
-fn job_on<N: HostName, R: Wait, G: Gate, K: Ledger>(
+fn job_on<N: HostName, R: Wait, G: Gate, K: TakingsName>(
     rt: &R,
     gate: &G,
     table: &HostTable,
@@ -147,6 +148,7 @@ fn job_on<N: HostName, R: Wait, G: Gate, K: Ledger>(
     requires named { AreNamed N.table N.setup N.lines table.now specs.now lines.now }
     requires ready { IsReady lines.now table.now place writer.old }
     requires takings { IsBlankOf K.name K.parts takings }
+    requires own { K.producer ≡ producer_of N.setup place }
     ensures played { HasPlayed lines.now (Flushed ∷ []) table.now place writer.new }
 {
     let takings = Takings::<K>::new(takings);

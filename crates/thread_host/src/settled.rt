@@ -117,7 +117,8 @@ fn end_writers(
     requires room { (seats.old.items ≡ []) × (length (setup_in table.now).writers ≤ vec_capacity seats.old) }
     requires sequences { length sequences.old ≡ length (setup_in table.now).writers }
     ensures learns { OnlyLearns table.now service.old service.new }
-    ensures seats { (length seats.new.items ≡ length (setup_in table.now).writers) × (views_of seats.new.items ≡ map view_in writers.items) }
+    ensures seats { (length seats.new.items ≡ length (setup_in table.now).writers)
+        × (views_of seats.new.items ≡ map view_in writers.items) }
     ensures heard { HasHeardAll (length (serving.view_in service.new).looks) (serving.desk_in service.new) seats.new.items }
     ensures done { (lines : List NumberedLine) → HavePlayed lines last_flushes table.now writers.items
         → AreDoneSeats lines table.now seats.new.items sequences.new }

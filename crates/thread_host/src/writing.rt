@@ -1,6 +1,7 @@
 //! A writer's job of a run.
 ghost use Rattle.std.specs.Prelude.{◌≡◌, suc, ◌+◌, ◌*◌, ◌≤◌, true, [], ◌∷◌};
 ghost use Rattle.trace_model.specs.Calls.{Flushed};
+ghost use Rattle.chunk_plain.specs.Setup.{producer_of};
 ghost use Rattle.replay_model.specs.Does.{asks_for};
 ghost use Rattle.service_core.specs.Agreement.{spec_at};
 ghost use Rattle.run_model.specs.Collected as collected;
@@ -11,7 +12,7 @@ ghost use Rattle.thread_host.specs.Terms.{AreNamed, IsBlankOf};
 
 use crate::help::{IdleHelp, LockHelp};
 use crate::locked::{Locked, Takings};
-use crate::name::HostName;
+use crate::name::{HostName, TakingsName};
 use crate::playing::play_all;
 use byte_io::traits::Gate;
 use chunk_words::HostTable;
@@ -27,8 +28,8 @@ use trace_writer::NoHelp;
 /// gate, and before a line, it answers the newest flush request where no packet is begun. A writer that
 /// drops takes no lock, nor does one that begins no packet; another one that stalls, for ever or so often,
 /// takes it where it asks for chunks. For each packet that it lost, the service was asked behind that lock
-/// to take chunks as often, at least, as its policy lets it ask for one chunk.
-pub fn writer_job<N: HostName, R: Wait, G: Gate, K: Ledger>(
+/// to take chunks of the writer's own producer as often, at least, as its policy lets it ask for one chunk.
+pub fn writer_job<N: HostName, R: Wait, G: Gate, K: TakingsName>(
     rt: &R,
     gate: &G,
     table: &HostTable,
@@ -41,6 +42,7 @@ pub fn writer_job<N: HostName, R: Wait, G: Gate, K: Ledger>(
 ) -> Takings<K>
     requires named { AreNamed N.table N.setup N.lines table.now specs.now lines.now }
     requires ready { IsReady lines.now table.now place writer.old }
+    requires own { K.producer ≡ producer_of N.setup place }
     ensures played { HasPlayed lines.now (Flushed ∷ []) table.now place writer.new }
     ensures asks { takings + asks_for (spec_at N.setup.writers place).policy * lost_in writer.new ≤ result }
 {
@@ -118,8 +120,9 @@ fn begins_packet(line: &LineKind<'_>) -> bool
     }
 }
 
-/// Plays them with a helper that takes the lock, and counts how often it has chunks taken.
-fn play_helped<N: HostName, R: Wait, G: Gate, L: Ledger, K: Ledger>(
+/// Plays them with a helper that takes the lock, and counts how often it has chunks of the writer's
+/// producer taken.
+fn play_helped<N: HostName, R: Wait, G: Gate, L: Ledger, K: TakingsName>(
     rt: &R,
     gate: &G,
     table: &HostTable,
@@ -136,6 +139,7 @@ fn play_helped<N: HostName, R: Wait, G: Gate, L: Ledger, K: Ledger>(
     requires asks { may_ask N.setup N.lines place ≡ true }
     requires number { number ≡ suc place }
     requires ready { IsReady lines.now table.now place writer.old }
+    requires own { K.producer ≡ producer_of N.setup place }
     requires steps { IsBlankOf L.name L.parts steps }
     ensures played { HasPlayed lines.now (Flushed ∷ []) table.now place writer.new }
     ensures asks { takings + asks_for (spec_at N.setup.writers place).policy * lost_in writer.new ≤ result }

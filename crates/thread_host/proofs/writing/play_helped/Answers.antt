@@ -1,5 +1,5 @@
 -- The helper is asked for the chunks of its writer's producer, and never refuses; each time it counts one taking.
-use Rattle.std.proofs.Common.{◌≡◌, ◌≤◌, ◌+◌, ◌*◌, ℕ, true, List, sym, subst}
+use Rattle.std.proofs.Common.{◌≡◌, ◌∙◌, ◌≤◌, ◌+◌, ◌*◌, ℕ, true, List, sym, ap, subst}
 use Rattle.trace_base.specs.declared.policy.WriterSpec.{WriterSpec}
 use Rattle.replay_model.specs.Does.{asks_for}
 use Rattle.service_core.specs.Agreement.{spec_at}
@@ -12,8 +12,12 @@ use Rattle.thread_host.proofs.writing.play_helped.Goals as goal
 
 pub new-requires-clause-asked : goal.new-requires-clause-asked
 new-requires-clause-asked g c =
-    subst (λ (specs : List WriterSpec). has_asker g.N.HostName.setup g.N.HostName.lines (spec_at specs c.args.place).producer ≡ true) (sym c.requires.named.specs_are)
+    subst (λ (producer : ℕ). has_asker g.N.HostName.setup g.N.HostName.lines producer ≡ true) (sym c.requires.own)
     (asked_here g.N.HostName.setup g.N.HostName.lines c.args.place c.requires.asks)
+
+pub new-requires-clause-own : goal.new-requires-clause-own
+new-requires-clause-own g c =
+    ap (λ (specs : List WriterSpec). (spec_at specs c.args.place).producer) c.requires.named.specs_are ∙ sym c.requires.own
 
 pub returns-clause-asks : goal.returns-clause-asks
 returns-clause-asks g c =

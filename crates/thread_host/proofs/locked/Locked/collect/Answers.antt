@@ -1,10 +1,11 @@
-use Rattle.std.proofs.Common.{◌∙◌, ◌≤◌, List, length, rules, inl, sym, ap, subst}
+use Rattle.std.proofs.Common.{◌≡◌, ◌∙◌, ◌≤◌, ℕ, true, List, length, rules, inl, sym, ap, subst}
 use Rattle.chunk_plain.specs.Setup.{Setup}
 use Rattle.service_core.specs.Taking.{Takes, places_of}
 use Rattle.thread_service.specs.Serving.{core_of, view_in}
 use Rattle.chunk_plain.specs.Views.{Letter, asked_in}
 use Rattle.session_core.specs.Sessions.{SessionValue}
 use Rattle.replay_model.specs.Flushes.{requests_in}
+use Rattle.run_model.specs.Collected.{has_asker}
 use Rattle.thread_host.specs.Tally.{IsTally}
 use Rattle.thread_host.proofs.Collected.{asker_may}
 use Rattle.thread_host.proofs.Growing.{collect_grows}
@@ -14,35 +15,38 @@ use Rattle.thread_host.proofs.KeptAnswers.{answers_same}
 use Rattle.thread_host.proofs.locked.Locked.collect.Goals as goal
 
 pub invariant_of-self : goal.invariant_of-self
-invariant_of-self g c = record {
-  serves = search rules;
-  «open» = search rules;
-  began = search rules;
-  own = search (rules, collect_own);
-  grows =
-      let setup_is = c.requires.table.setup_is in
-      let start = g.N.HostName.start in
-      let old = view_in c.args.self.now.service in
-      let new = view_in c.collect.new.self in
-      collect_grows g.N.HostName.setup g.N.HostName.lines c.args.producer c.collect.result start old new
-      (asker_may g.N.HostName.setup g.N.HostName.lines c.args.producer c.requires.asked)
-      (subst (λ (s : Setup). Takes s (places_of c.args.producer 0 s.writers) c.collect.result old new) setup_is c.collect.ensures.takes)
-      c.args.self.now.grows;
-  played =
-      let setup_is = c.requires.table.setup_is in
-      let old = view_in c.args.self.now.service in let new = view_in c.collect.new.self in
-      turns_between g.N.HostName.setup g.N.HostName.first g.N.HostName.lines c.args.self.now.book.total g.N.HostName.start old new
-      (inl (
-        c.args.producer,
-        c.collect.result,
-        c.requires.asked,
-        subst (λ (s : Setup). Takes s (places_of c.args.producer 0 s.writers) c.collect.result old new) setup_is c.collect.ensures.takes,
-      )) c.args.self.now.played;
-  started = ap (λ (s : SessionValue). s.state) c.collect.ensures.keeps.fields.session ∙ c.args.self.now.started;
-  few = subst (λ (l : List Letter). asked_in l ≤ requests_in g.N.HostName.lines) (sym c.collect.ensures.letters) c.args.self.now.few;
-  tallied = subst (λ (l : List Letter). IsTally (requests_in g.N.HostName.lines) (length g.N.HostName.setup.writers) l c.args.self.now.tally)
-      (sym c.collect.ensures.letters) c.args.self.now.tallied;
-  kept = answers_same (length g.N.HostName.setup.writers) (view_in c.args.self.now.service).letters (view_in c.collect.new.self).letters
-      (core_of c.args.self.now.service).session (core_of c.collect.new.self).session c.collect.ensures.letters c.collect.ensures.keeps.fields.session
-      c.args.self.now.kept;
-}
+invariant_of-self g c =
+    let asked : has_asker g.N.HostName.setup g.N.HostName.lines c.args.producer ≡ true =
+    subst (λ (producer : ℕ). has_asker g.N.HostName.setup g.N.HostName.lines producer ≡ true) (sym c.requires.own) c.requires.asked in
+    record {
+      serves = search rules;
+      «open» = search rules;
+      began = search rules;
+      own = search (rules, collect_own);
+      grows =
+          let setup_is = c.requires.table.setup_is in
+          let start = g.N.HostName.start in
+          let old = view_in c.args.self.now.service in
+          let new = view_in c.collect.new.self in
+          collect_grows g.N.HostName.setup g.N.HostName.lines c.args.producer c.collect.result start old new
+          (asker_may g.N.HostName.setup g.N.HostName.lines c.args.producer asked)
+          (subst (λ (s : Setup). Takes s (places_of c.args.producer 0 s.writers) c.collect.result old new) setup_is c.collect.ensures.takes)
+          c.args.self.now.grows;
+      played =
+          let setup_is = c.requires.table.setup_is in
+          let old = view_in c.args.self.now.service in let new = view_in c.collect.new.self in
+          turns_between g.N.HostName.setup g.N.HostName.first g.N.HostName.lines c.args.self.now.book.total g.N.HostName.start old new
+          (inl (
+            c.args.producer,
+            c.collect.result,
+            asked,
+            subst (λ (s : Setup). Takes s (places_of c.args.producer 0 s.writers) c.collect.result old new) setup_is c.collect.ensures.takes,
+          )) c.args.self.now.played;
+      started = ap (λ (s : SessionValue). s.state) c.collect.ensures.keeps.fields.session ∙ c.args.self.now.started;
+      few = subst (λ (l : List Letter). asked_in l ≤ requests_in g.N.HostName.lines) (sym c.collect.ensures.letters) c.args.self.now.few;
+      tallied = subst (λ (l : List Letter). IsTally (requests_in g.N.HostName.lines) (length g.N.HostName.setup.writers) l c.args.self.now.tally)
+          (sym c.collect.ensures.letters) c.args.self.now.tallied;
+      kept = answers_same (length g.N.HostName.setup.writers) (view_in c.args.self.now.service).letters (view_in c.collect.new.self).letters
+          (core_of c.args.self.now.service).session (core_of c.collect.new.self).session c.collect.ensures.letters c.collect.ensures.keeps.fields.session
+          c.args.self.now.kept;
+    }
