@@ -1,6 +1,9 @@
 """Whole scenarios: all sequences of all buffers at once. Of each, what the writers did, what the service noted and the records of the
 trace; of each writer, what became of each packet, and the report's line."""
 
+from collections import Counter
+from functools import cached_property
+
 import histories
 import recorder
 import worlds
@@ -13,14 +16,10 @@ from model.chunks import read_fragments
 from model.geometry import record_size
 from model.limits import MOST_NUMBER
 
-__all__ = ['HEAD', 'LEMMAS', 'PROOF_HEAD', 'UNFOLDING', 'WORDS', 'statements']
+__all__ = ['HEAD', 'LEMMAS', 'PROOF_HEAD', 'WORDS', 'statements']
 
 PROOF_HEAD = '''use Rattle.std.proofs.Common.{◌≡◌, ◌<◌, ◌≤◌, ℕ, true, false, List, [], ◌∷◌, ◌++◌, replicate, refl, arith}
 use Rattle.std.proofs.lemmas.List.Elements.{All-from_recursion}
-use Rattle.wire_varint.specs.Varint.{varint, groups, tag, redundant}
-use Rattle.trace_model.specs.Encoding.{number_field, bytes_head, bytes_field}
-use Rattle.trace_model.specs.Record.{content_of, record_of}
-use Rattle.trace_model.specs.Walks.{is_accepted, is_number, is_refused}
 use Rattle.std.specs.Prelude.{slice_index_or}
 use Rattle.trace_model.specs.Packets.{packets_of}
 use Rattle.trace_model.specs.Cut.{IsWellFormedPage, CutsInto}
@@ -32,8 +31,7 @@ use Rattle.computed.specs.Words.{Told, emitted_in, spliced}
 use Rattle.computed.proofs.Everywhere.{at_each, told_at}
 '''
 
-UNFOLDING = 'unfolding groups varint tag redundant number_field bytes_head bytes_field content_of record_of is_accepted is_number is_refused\n'
-
+MOST_SEEDS = 5000       # seeds that are looked at for a kind
 MOST_EVENTS = 120       # of a scenario
 MOST_CHARACTERS = 50000
 MOST_READ = MOST_NUMBER // 2     # packets that a limit of a line allows
@@ -42,6 +40,7 @@ TIMES_CHARACTERS = 5    # the generated files are so many times as long as other
 # What some of the scenarios have.
 KINDS = ('scenarios of several writers', 'scenarios of several producers', 'scenarios of several buffers',
          'reads with a limit', 'parts of chunks', 'bodies with patches', 'closes before the end', 'chunks that are held at the end',
+         'chunks that are held behind others', 'writers without a chunk',
          'packets delivered', 'packets dropped', 'packets overwritten', 'packets discarded', 'packets cut', 'front marks')
 
 
@@ -56,6 +55,10 @@ class Account:
         assert [one for _, one in self.records] == world.out
         for writer in self.writers:
             writer.counts = worlds.reported(world, writer.writer)
+
+    @cached_property
+    def things(self):
+        return things_of(self)
 
     def of(self, sequence):
         return self.writers[sequence - 2]
@@ -225,8 +228,9 @@ def facts_of(account, counts_of):
                f'{listed(map(outcome_term, writer.outcomes))} ({record(**counts_of(writer))})')
 
 
-def statement_of(account):
+def statement_of(account, counts):
     proof = proof_of(account)
+    counts.update(account.things)
 
     def specs(counts_of):
         return account_specs(account) + define(f'Run{account.name}', 'Type 0', '\n    × '.join(facts_of(account, counts_of)))
@@ -240,12 +244,12 @@ def statement_of(account):
         + [f'{word}_{account.name}' for word in ('setup', 'buffers', 'world', 'held', 'events', 'records')]
     lemmas = list(proofs_of_cuts(account))
     wrong = Statement(f'Run{account.name}', specs(spoilt), proof, uses=uses, lemmas=lemmas)
-    return Statement(f'Run{account.name}', specs(lambda writer: writer.counts), proof, wrong, uses=uses, lemmas=lemmas)
+    return Statement(f'Run{account.name}', specs(lambda writer: writer.counts), proof, wrong, uses=uses, lemmas=lemmas, has=account.things)
 
 
-def counted(account, counts):
-    """Counts what the scenario has, so that none of it is missing in all of them."""
-    scenario = account.scenario
+def things_of(account):
+    """How often the scenario has what few have, and other things."""
+    scenario, counts = account.scenario, Counter()
     counts['scenarios'] += 1
     for word, parts in (('writers', scenario.writers), ('producers', scenario.producers), ('buffers', scenario.buffers)):
         counts[f'scenarios of several {word}'] += len(parts) > 1
@@ -255,30 +259,34 @@ def counted(account, counts):
         counts['parts of chunks'] += event[0] == 'partial'
         counts['bodies with patches'] += event[0] == 'patched'
     for writer in account.writers:
-        counts['chunks that are held at the end'] += len(writer.pages) - writer.completed
+        held = len(writer.pages) - writer.completed
+        counts['chunks that are held at the end'] += held
+        counts['chunks that are held behind others'] += held if writer.completed else 0
+        counts['writers without a chunk'] += not writer.pages
         counts['front marks'] += sum(bool(packet.front) for packet in writer.packets)
         for word, value in writer.counts.items():
             counts[f'packets {word}'] += value
+    return +counts
 
 
 def accounts(first, wanted):
-    """So many whole scenarios of the model with several writers or buffers and a packet, from this seed on."""
+    """At least so many whole scenarios of the model with a packet, from this seed on, and more until each of the kinds is among them."""
     recorder.record_all()
     service.Writer = writer_scripts.Recorded
-    made, seed = 0, first
-    while made < wanted:
+    made, seed, lacking = 0, first, set(KINDS)
+    while made < wanted or (lacking and seed < first + MOST_SEEDS):
         seed += 1
         world = histories.played(seed - 1)
         if not world or not world.is_whole or len(recorder.WHOLE.events) > MOST_EVENTS or not any(writer.begun for writer in world.service.writers):
             continue
         account = Account(str(seed - 1), world)
-        if len(account_specs(account)) > MOST_CHARACTERS:
+        if len(account_specs(account)) > MOST_CHARACTERS or (made >= wanted and not lacking & set(account.things)):
             continue
+        lacking -= set(account.things)
         made += 1
         yield account
 
 
 def statements(first, wanted, counts):
     for account in accounts(first, wanted):
-        counted(account, counts)
-        yield statement_of(account)
+        yield statement_of(account, counts)

@@ -4,13 +4,14 @@
 class Statement:
     """One run: what the specs file says of it, its fact's name, and the proof."""
 
-    def __init__(self, name, specs, proof, wrong=None, uses=(), lemmas=()):
+    def __init__(self, name, specs, proof, wrong=None, uses=(), lemmas=(), has=()):
         self.name = name
         self.specs = specs
         self.proof = proof
         self.wrong = wrong      # the same with a wrong number, where one was made
         self.uses = list(uses)  # what the proof names beside the fact
         self.lemmas = list(lemmas)  # (name, fact, proof) of what the proof rests on
+        self.has = set(has)     # branches that it takes, and other things for which a run is chosen
 
     def size(self):
         return len(self.specs)

@@ -115,13 +115,7 @@ no_limit = 2 ^ 64 - 1
 
 '''
 
-PROOF_HEAD = '''use Rattle.std.proofs.Common.{refl}
-use Rattle.wire_varint.specs.Varint.{varint, groups}
-use Rattle.trace_model.specs.Record.{content_of, record_of}
-use Rattle.trace_model.specs.Walks.{is_accepted, is_number, is_refused}
-'''
-
-UNFOLDING = 'unfolding groups varint content_of record_of is_accepted is_number is_refused\n'
+PROOF_HEAD = 'use Rattle.std.proofs.Common.{refl}\n'
 
 LEAST = 2               # histories that take a branch
 MOST_SEEDS = 20000      # seeds that are looked at for a branch
@@ -380,7 +374,7 @@ def statement_of(name, buffer, notes, counts):
     proof = record(answered='refl', written='refl', counted='refl', known='refl', placed='refl', stands='refl', ended='refl', caused='refl')
     spoilt = [list(state) for state in states]
     spoilt[-1][5] += 1
-    return Statement(f'Run{name}', specs(states), proof, Statement(f'Run{name}', specs(spoilt), proof))
+    return Statement(f'Run{name}', specs(states), proof, Statement(f'Run{name}', specs(spoilt), proof), has=notes.branches)
 
 
 def numbers_of(rows):

@@ -2,18 +2,22 @@
 
 from collections import namedtuple
 
-# `runs` are the kinds of run that are tried, in their order.
-Mutation = namedtuple('Mutation', 'name crate file old new runs')
+# `runs` are the kinds of run that are tried, in their order; `tells` names what a run has, or a way to spoil one, that tells of the change,
+# where this is written down: such runs alone are tried then.
+Mutation = namedtuple('Mutation', 'name crate file old new runs tells')
 
 CUT = [
-    ('begins packets at 13 bytes left', 'Cut.antt', 'room_to_begin = 12', 'room_to_begin = 13'),
+    ('begins packets at 13 bytes left', 'Cut.antt', 'room_to_begin = 12', 'room_to_begin = 13',
+     'a packet that begins at twelve bytes left'),
     ('wants a length next at three bytes left', 'Cut.antt', 'nat_lt (left_behind size piece) 4 && is_among',
-     'nat_lt (left_behind size piece) 3 && is_among'),
+     'nat_lt (left_behind size piece) 3 && is_among', 'a nested length that moves on over 3'),
     ('forgets that the page before runs on', 'Cut.antt', '(page.continues ≡ runs_on) × FlagsAgree page.runs_on pages',
      '(page.continues ≡ runs_on) × FlagsAgree false pages'),
-    ('lets a packet that is given up leave two bytes', 'Cut.antt', 'length unused ≤ 3', 'length unused ≤ 2'),
+    ('lets a packet that is given up leave two bytes', 'Cut.antt', 'length unused ≤ 3', 'length unused ≤ 2',
+     'a packet that is given up with 3 left'),
     ('begins no chunk behind a lost packet', 'Cut.antt', 'is_lost packet || (flushed || is_end size (newest_piece chains))',
-     'flushed || is_end size (newest_piece chains)'),
+     'flushed || is_end size (newest_piece chains)',
+     'a packet kept behind a lost one where room was left', 'a packet dropped behind a lost one where room was left'),
     ('wants two bytes of each further fragment', 'Cut.antt', 'has_byte piece = nat_lt 0', 'has_byte piece = nat_lt 1'),
     ('wants five bytes of an open length in one chunk', 'Sent.antt', 'chunk_at pieces at == chunk_at pieces (at + 3)',
      'chunk_at pieces at == chunk_at pieces (at + 4)'),
@@ -74,62 +78,83 @@ READ = [
 
 CAUSES = [
     ('fixes no packet that is passed', 'Causes.antt', 'fixed_by_turn at (Counts cause) = record { at = at; outcome = Absent cause } ∷ []',
-     'fixed_by_turn at (Counts cause) = []'),
+     'fixed_by_turn at (Counts cause) = []', 'a chain that is cut by its next chunk', 'a chain that runs into a lost chunk'),
     ('fixes a packet that is passed as delivered', 'Causes.antt', 'fixed_by_turn at (Counts cause) = record { at = at; outcome = Absent cause } ∷ []',
-     'fixed_by_turn at (Counts cause) = record { at = at; outcome = Delivered } ∷ []'),
-    ('fixes the rest of a packet too', 'Causes.antt', 'filter (λ at. not (chunk.continues && (at.passed == 0))) places', 'places'),
-    ('fixes no discarded packet', 'Causes.antt', 'if (state.number == owner.number) && not partial', 'if (state.number == owner.number) && partial'),
+     'fixed_by_turn at (Counts cause) = record { at = at; outcome = Delivered } ∷ []',
+     'a chain that is cut by its next chunk', 'a chain that runs into a lost chunk'),
+    ('fixes the rest of a packet too', 'Causes.antt', 'filter (λ at. not (chunk.continues && (at.passed == 0))) places', 'places',
+     'a chunk that continues a packet and is lost unread'),
+    ('fixes no discarded packet', 'Causes.antt', 'if (state.number == owner.number) && not partial',
+     'if (state.number == owner.number) && partial', 'a packet that is discarded'),
 ]
 
 WHOLE = [
     ('forgets what reads passed as cut', 'Balance.antt', 'cut = raised state.cut (begun_count calls - counted_packets calls state);',
-     'cut = begun_count calls - counted_packets calls state;'),
+     'cut = begun_count calls - counted_packets calls state;', 'packets that a read passed as cut'),
     ('takes what nothing fixed for lost', 'Balance.antt', '(Absent Cut) ∷ outcomes_of fixed packets chains',
-     '(Absent Lost) ∷ outcomes_of fixed packets chains'),
-    ('wants a chunk less of each packet', 'Enough.antt', '1 + length packet / (payload - 7)', 'length packet / (payload - 7)'),
-    ('wants bytes for payloads alone', 'Enough.antt', '* record_size (payload_of producers load)', '* (payload_of producers load / 2)'),
+     '(Absent Lost) ∷ outcomes_of fixed packets chains', 'packets of which nothing is fixed'),
+    ('wants a chunk less of each packet', 'Enough.antt', '1 + length packet / (payload - 7)', 'length packet / (payload - 7)',
+     'enough but for one chunk of each packet'),
+    ('wants bytes for payloads alone', 'Enough.antt', '* record_size (payload_of producers load)', '* (payload_of producers load / 2)',
+     'enough but for half of the bytes'),
 ]
 
 TELLS = [
-    ('marks the first record alone', 'Tells.antt', '(first || not (place == next))', 'first'),
+    ('marks the first record alone', 'Tells.antt', '(first || not (place == next))', 'first', 'a record behind a missing packet'),
     ('wants a mark behind each record', 'Tells.antt', 'TellsFrom emitted sequence false (suc place) others',
-     'TellsFrom emitted sequence false place others'),
+     'TellsFrom emitted sequence false place others', 'a record right behind the one before'),
 ]
 
 # (crate, then as above)
 ACCOUNTS = [
-    ('takes a chunk at any position', 'delivery_laws', 'Orders.antt', '(chunk_id ≡ come) × (sheet : Sheet)', '(come ≡ come) × (sheet : Sheet)'),
+    ('takes a chunk at any position', 'delivery_laws', 'Orders.antt', '(chunk_id ≡ come) × (sheet : Sheet)', '(come ≡ come) × (sheet : Sheet)',
+     'a chunk at another position'),
     ('takes a chunk behind its close', 'delivery_laws', 'Orders.antt', '((closed ≡ false) × (chunk_id ≡ come) × (sheet : Sheet)',
-     '((closed ≡ closed) × (chunk_id ≡ come) × (sheet : Sheet)'),
-    ('wants no patches behind a chunk', 'delivery_laws', 'Orders.antt', '(suc come) closed sheet.patches events', '(suc come) closed [] events'),
+     '((closed ≡ closed) × (chunk_id ≡ come) × (sheet : Sheet)', 'a chunk behind its close'),
+    ('wants no patches behind a chunk', 'delivery_laws', 'Orders.antt', '(suc come) closed sheet.patches events', '(suc come) closed [] events',
+     'bodies with patches'),
     ('lets patches stay away', 'delivery_laws', 'Orders.antt',
      'InOrder sheets sequence come closed due (Arrives other chunk_id chunk ∷ events) =\n    (due ≡ [])',
-     'InOrder sheets sequence come closed due (Arrives other chunk_id chunk ∷ events) =\n    (due ≡ due)'),
+     'InOrder sheets sequence come closed due (Arrives other chunk_id chunk ∷ events) =\n    (due ≡ due)',
+     'patches left out before a chunk'),
     ('wants all fragments in a part', 'delivery_laws', 'Histories.antt', 'ShowFragments true false chunk.fragments',
-     'ShowFragments false false chunk.fragments'),
-    ('takes all fragments as a part', 'trace_model', 'Fading.antt', 'MoreComes true [] = ⊥', 'MoreComes true [] = ⊤'),
-    ('asks nothing for what is discarded', 'delivery_laws', 'Room.antt', 'is_placing Discarded = true', 'is_placing Discarded = false'),
-    ('asks bytes for a double', 'delivery_laws', 'Room.antt', 'is_placing other = false', 'is_placing other = true'),
-    ('gives each buffer all sequences', 'world_model', 'FirstBuffers.antt', 'if spec.buffer == buffer', 'if buffer == buffer'),
-    ('numbers buffers from 0', 'world_model', 'FirstBuffers.antt', 'first_buffers setup (suc buffer) specs', 'first_buffers setup buffer specs'),
-    ('puts the held chunk first', 'world_model', 'Accounts.antt', 'completed_images view.begun ++ held', 'held ++ completed_images view.begun'),
+     'ShowFragments false false chunk.fragments', 'parts of chunks'),
+    ('takes all fragments as a part', 'trace_model', 'Fading.antt', 'MoreComes true [] = ⊥', 'MoreComes true [] = ⊤',
+     'a part with all fragments'),
+    ('asks nothing for what is discarded', 'delivery_laws', 'Room.antt', 'is_placing Discarded = true', 'is_placing Discarded = false',
+     'packets discarded'),
+    ('asks bytes for a double', 'delivery_laws', 'Room.antt', 'is_placing other = false', 'is_placing other = true', 'parts of chunks'),
+    ('gives each buffer all sequences', 'world_model', 'FirstBuffers.antt', 'if spec.buffer == buffer', 'if buffer == buffer',
+     'scenarios of several buffers'),
+    ('numbers buffers from 0', 'world_model', 'FirstBuffers.antt', 'first_buffers setup (suc buffer) specs', 'first_buffers setup buffer specs',
+     'scenarios of several buffers'),
+    ('puts the held chunk first', 'world_model', 'Accounts.antt', 'completed_images view.begun ++ held', 'held ++ completed_images view.begun',
+     'chunks that are held behind others'),
     ('wants the last chunk to run on', 'world_model', 'Accounts.antt', 'last_runs_on false cut.pages ≡ newest_goes_on',
-     'last_runs_on true cut.pages ≡ newest_goes_on'),
+     'last_runs_on true cut.pages ≡ newest_goes_on', 'writers without a chunk'),
     ('wants the next chunk of what is noted', 'world_model', 'Accounts.antt',
-     '(closed ≡ false) × (position ≡ come) × (content : Content)', '(closed ≡ false) × (position ≡ suc come) × (content : Content)'),
+     '(closed ≡ false) × (position ≡ come) × (content : Content)', '(closed ≡ false) × (position ≡ suc come) × (content : Content)',
+     'packets delivered'),
     ('takes any chunk that is noted', 'world_model', 'Accounts.antt',
-     '(closed ≡ false) × (position ≡ come) × (content : Content)', '(closed ≡ false) × (come ≡ come) × (content : Content)'),
+     '(closed ≡ false) × (position ≡ come) × (content : Content)', '(closed ≡ false) × (come ≡ come) × (content : Content)',
+     'a chunk at another position'),
     ('notes a chunk behind its close', 'world_model', 'Accounts.antt',
-     '(closed ≡ false) × (position ≡ come) × (content : Content)', '(closed ≡ closed) × (position ≡ come) × (content : Content)'),
-    ('finds all fragments of a chunk', 'world_model', 'Accounts.antt', 'length found.ends < image.count', 'length found.ends ≤ image.count'),
-    ('wants no patches noted', 'world_model', 'Accounts.antt', '(suc come) closed content.patches notes', '(suc come) closed [] notes'),
-    ('gives writers the sequences from 1 on', 'trace_model', 'Delivery.antt', 'sequence_of writer = writer + 2', 'sequence_of writer = writer + 1'),
-    ('takes a packet twice', 'trace_model', 'Tells.antt', 'pub not_before : next ≤ place', 'pub not_before : 0 ≤ place'),
-    ('takes any marks', 'trace_model', 'Tells.antt', '(front || behind) ≡ (first || not (place == next))', '(front || behind) ≡ (front || behind)'),
-    ('takes any packet', 'trace_model', 'Tells.antt', 'bytes ≡ record_of (mark_where front ++ packet) sequence behind', 'bytes ≡ bytes'),
+     '(closed ≡ false) × (position ≡ come) × (content : Content)', '(closed ≡ closed) × (position ≡ come) × (content : Content)',
+     'a chunk behind its close'),
+    ('finds all fragments of a chunk', 'world_model', 'Accounts.antt', 'length found.ends < image.count', 'length found.ends ≤ image.count',
+     'a part with all fragments'),
+    ('wants no patches noted', 'world_model', 'Accounts.antt', '(suc come) closed content.patches notes', '(suc come) closed [] notes',
+     'bodies with patches'),
+    ('gives writers the sequences from 1 on', 'trace_model', 'Delivery.antt', 'sequence_of writer = writer + 2', 'sequence_of writer = writer + 1',
+     'packets delivered'),
+    ('takes a packet twice', 'trace_model', 'Tells.antt', 'pub not_before : next ≤ place', 'pub not_before : 0 ≤ place', 'a packet twice'),
+    ('takes any marks', 'trace_model', 'Tells.antt', '(front || behind) ≡ (first || not (place == next))', '(front || behind) ≡ (front || behind)',
+     'a mark too many', 'a mark missing'),
+    ('takes any packet', 'trace_model', 'Tells.antt', 'bytes ≡ record_of (mark_where front ++ packet) sequence behind', 'bytes ≡ bytes',
+     'another byte', 'a packet cut short', 'an invented packet'),
     ('takes any cause', 'trace_model', 'Balance.antt', 'pub cut : counts.cut ≡ count_by (is_absent_under Cut) outcomes',
-     'pub cut : counts.cut ≡ counts.cut'),
-    ('counts deliveries alone', 'trace_model', 'Balance.antt', 'counts.discarded + counts.cut\n', 'counts.discarded\n'),
+     'pub cut : counts.cut ≡ counts.cut', 'a count one too low', 'a packet counted twice'),
+    ('counts deliveries alone', 'trace_model', 'Balance.antt', 'counts.discarded + counts.cut\n', 'counts.discarded\n', 'packets cut'),
 ]
 
 # Schedules, acts, what they do, and reports.
@@ -277,9 +302,18 @@ RUNS = [
      'rounds_for (StallsThenDrops tries) = tries'),
 ]
 
-ALL = [Mutation(one[0], 'trace_model', *one[1:], ('scripts', 'worlds')) for one in CUT] \
-    + [Mutation(one[0], 'trace_model', *one[1:], ('histories', 'worlds')) for one in ARRIVAL + READ + CAUSES] \
-    + [Mutation(one[0], 'trace_model', *one[1:], ('worlds',)) for one in WHOLE + TELLS] \
-    + [Mutation(*one, ('accounts',)) for one in ACCOUNTS] \
-    + [Mutation(*one, ('replays',)) for one in REPLAYS + RAWS] \
-    + [Mutation(*one, ('runs',)) for one in RUNS]
+
+
+def those_of(runs, *lists, crate=None):
+    """The changes in these lists, of this crate where they don't name theirs."""
+    for name, *rest in (one for changes in lists for one in changes):
+        home, file, old, new, *tells = [crate, *rest] if crate else rest
+        yield Mutation(name, home, file, old, new, runs, tuple(tells))
+
+
+ALL = [*those_of(('scripts', 'worlds'), CUT, crate='trace_model'),
+       *those_of(('histories', 'worlds'), ARRIVAL, READ, CAUSES, crate='trace_model'),
+       *those_of(('worlds',), WHOLE, TELLS, crate='trace_model'),
+       *those_of(('accounts',), ACCOUNTS),
+       *those_of(('replays',), REPLAYS, RAWS),
+       *those_of(('runs',), RUNS)]

@@ -18,6 +18,7 @@ BRANCHES = (
     'a packet that isn\'t whole fields', 'a packet with a field of the service', 'a packet with a mark in front',
     'a field that goes on in the next chunk',
     'a read that ends at its limit', 'a read that ends at a part', 'a read that ends at an open patch', 'a read that ends at a close',
+    'a chunk that continues a packet and is lost unread', 'a packet that is discarded',
 )
 
 
@@ -80,6 +81,8 @@ class Buffer(TraceBuffer):
         if record.partial and sequence.closed and self.is_unread(record):
             notes_of(self).branches.add('a final partial record that is lost unread')
         if not (record.partial and not sequence.closed):
+            if record.chunk.continues() and sequence.unread(record.position, len(record.fragments)) == len(record.fragments):
+                notes_of(self).branches.add('a chunk that continues a packet and is lost unread')
             for place in unread_starts(sequence, record.position, len(record.fragments), record.chunk.continues()):
                 notes_of(self).fix(sequence.number, place, 'Absent Lost')
         super().lose(record)
@@ -106,6 +109,7 @@ class Buffer(TraceBuffer):
             notes.branches.add('a chunk out of order')
         if outcome == DISCARDED:
             for place in starts:
+                notes.branches.add('a packet that is discarded')
                 notes.fix(number, place, 'Absent Lost')
         if sequence.cursor[0] != was[0]:
             notes.branches.add(f'an arrival of which {"just all" if was[1] == chunk.count else "more"} was passed')

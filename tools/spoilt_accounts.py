@@ -2,7 +2,7 @@
 the proof is the nearest one to a right one."""
 
 import random
-from collections import namedtuple
+from collections import Counter, namedtuple
 
 import account_proofs
 import worlds
@@ -206,8 +206,9 @@ WAYS = ('a packet twice', 'a packet missing', 'an invented packet', 'a mark too 
         'a chunk left out', 'a chunk at another position')
 
 
-def facts_of(account):
-    """Of each way that can be made in the scenario: its name, and facts with proofs, each of which is to be refused."""
+def facts_of(account, ways=WAYS, most=1):
+    """Of each of these ways that can be made in the scenario, at most so often: its name, and facts with proofs, each of which is to be
+    refused."""
     options = [(name, lambda splice=splice: [trace_fact(account, splice)])
                for spoils in (single_spoils, swap_spoils) for name, splice in spoils(account)]
     options += [(name, lambda rest=rest: [stranger_fact(account, *rest)]) for name, *rest in stranger_spoils(account)]
@@ -215,28 +216,26 @@ def facts_of(account):
                 for name, *rest in count_spoils(account)]
     options += [(name, lambda splice=splice: list(event_facts(account, splice))) for name, splice in event_spoils(account)]
     random.Random(account.name).shuffle(options)
-    made = set()
+    made = Counter()
     for name, facts in options:
-        if name in made:
+        if name not in ways or made[name] == most:
             continue
         found = [fact for fact in facts() if fact]
         if found:
-            made.add(name)
+            made[name] += 1
             yield name, found
 
 
-def statements_of(account, counts):
+def statements_of(account, counts, *chosen):
     """The spoilt statements of a scenario, of which the first has the scenario's definitions in front."""
     words = ('calls', 'pages', 'contents', 'held', 'view')
     uses = [f'{word}_{writer.name}' for writer in account.writers for word in words] \
         + [f'{word}_{account.name}' for word in ('setup', 'buffers', 'world', 'held', 'events', 'records')]
     front, number = account_specs(account), 0
-    for name, facts in facts_of(account):
+    for name, facts in facts_of(account, *chosen):
         counts[f'spoilt: {name}'] += 1
         for fact, proof in facts:
             title = f'Run{account.name}_{number}'
             specs = f'{front}abbrev pub {title} : Type 0\n{title} = {fact}\n\n'
-            statement = Statement(title, specs, proof, uses=uses if number == 0 else ())
-            statement.way = name
+            yield Statement(title, specs, proof, uses=uses if number == 0 else ())
             front, number = '', number + 1
-            yield statement

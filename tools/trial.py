@@ -10,6 +10,18 @@ from scratch import put
 ILL_FORMED = ('not in scope', 'this tuple has', 'use a typed `let`', 'syntax')
 
 
+def grouped(statements, characters):
+    """The statements in groups of about so many characters."""
+    taken = []
+    for statement in statements:
+        taken.append(statement)
+        if sum(one.size() for one in taken) >= characters:
+            yield taken
+            taken = []
+    if taken:
+        yield taken
+
+
 def proofs_text(one, unfolding):
     proofs = [*one.lemmas, (one.name.lower(), one.name, one.proof)]
     return ''.join(f'{name} : {fact}\n{unfolding}{name} = {proof}\n\n' for name, fact, proof in proofs)

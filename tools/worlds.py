@@ -1,6 +1,8 @@
 """Whole scenarios: writers, service and report. Of each writer: the report's line, one outcome for each packet, and the
 records of its sequence, which tell of the packets that it emitted."""
 
+from itertools import pairwise
+
 import histories
 import recorder
 import writer_scripts
@@ -67,11 +69,16 @@ no_limit = 2 ^ 64 - 1
 
 '''
 
-PROOF_HEAD = writer_scripts.PROOF_HEAD + '''use Rattle.trace_model.specs.Record.{content_of, record_of}
-use Rattle.trace_model.specs.Walks.{is_accepted, is_number, is_refused}
-'''
+PROOF_HEAD = writer_scripts.PROOF_HEAD
 
-UNFOLDING = writer_scripts.UNFOLDING[:-1] + ' content_of record_of is_accepted is_number is_refused\n'
+
+MOST_SEEDS = 5000           # seeds that are looked at for a thing
+MOST_CHARACTERS = 12000     # of a writer's calls and its buffer's events
+
+# What some of the writers have.
+THINGS = ('enough', 'enough but for one chunk of each packet', 'enough but for half of the bytes', 'packets that a read passed as cut',
+          'packets of which nothing is fixed', 'a record right behind the one before', 'a record behind a missing packet',
+          *(f'writers with packets {word}' for word in ('delivered', 'dropped', 'overwritten', 'discarded', 'cut')))
 
 
 def told_places(emitted, records, sequence):
@@ -108,19 +115,19 @@ def most_chunks(payload, lengths):
     return sum(1 + length // (payload - 7) for length in lengths)
 
 
-def is_enough(world, first=False):
+def is_enough(world, first=False, chunks_of=most_chunks, bytes_of=record_size):
     """Chunks and bytes are enough, so that no packet can be absent; or they would be if each writer had the packets of the first."""
     scenario, loads = world.scenario, list(loads_of(world))
     if first:
         loads = [(spec, loads[0][1]) for spec, _ in loads]
     for number, producer in enumerate(scenario.producers, 1):
         own = [(spec, lengths) for spec, lengths in loads if spec.producer == number]
-        chunks = sum(most_chunks(producer.payload(), lengths) for _, lengths in own)
+        chunks = sum(chunks_of(producer.payload(), lengths) for _, lengths in own)
         if any(spec.policy != 'stall' or spec.tries for spec, _ in own) and chunks > producer.pages * producer.chunks:
             return False
     for number, buffer in enumerate(scenario.buffers, 1):
         payloads = [(scenario.producers[spec.producer - 1].payload(), lengths) for spec, lengths in loads if spec.buffer == number]
-        if sum(most_chunks(payload, lengths) * record_size(payload) for payload, lengths in payloads) > buffer.size():
+        if sum(chunks_of(payload, lengths) * bytes_of(payload) for payload, lengths in payloads) > buffer.size():
             return False
     return True
 
@@ -152,7 +159,26 @@ def spec_term(spec):
                   **{'from': spec.first_id})
 
 
-def statement_of(name, writer, world, reported, counts):
+def things_of(writer, world, reported, places):
+    """What a writer has that few have: in what is enough, in what became of its packets, and in the places of its records."""
+    yield from (f'writers with packets {word}' for word, value in reported.items() if value)
+    if is_enough(world):
+        yield 'enough'
+    else:
+        if is_enough(world, chunks_of=lambda payload, lengths: most_chunks(payload, lengths) - len(lengths)):
+            yield 'enough but for one chunk of each packet'
+        if is_enough(world, bytes_of=lambda payload: payload // 2):
+            yield 'enough but for half of the bytes'
+    passed = world.service.buffer_of(writer).sequences[writer.number + 1].cut
+    if passed:
+        yield 'packets that a read passed as cut'
+    if reported['cut'] > passed:
+        yield 'packets of which nothing is fixed'
+    for (before, *_), (at, *_) in pairwise(places):
+        yield 'a record right behind the one before' if at == before + 1 else 'a record behind a missing packet'
+
+
+def statement_of(name, writer, world, reported):
     spec = writer.spec
     buffer = world.service.buffers[spec.buffer - 1]
     sequence = writer.number + 1
@@ -163,11 +189,8 @@ def statement_of(name, writer, world, reported, counts):
     packets, pages = writer_scripts.packets_of(writer.calls), writer.pages()
     emitted = [packet.body()[len(packet.front):] for packet in packets[::-1] if packet.finished]
     calls = listed(map(writer_scripts.call_term, writer.calls))
-    if len(listed(events)) + len(calls) > 40000 or not packets:
+    if len(listed(events)) + len(calls) > MOST_CHARACTERS or not packets:
         return None
-    counts['writers'] += 1
-    for word, value in reported.items():
-        counts[f'packets {word}'] += value
     images = [record(sequence=sequence, chunk_id=number, count=page.count, flags=page.flags, payload=octets(page.payload))
               for number, page in enumerate(pages)]
     patches = listed(listed(map(writer_scripts.patch_term, page.patches)) for page in pages)
@@ -175,7 +198,8 @@ def statement_of(name, writer, world, reported, counts):
     policy = {'ring': 'Ring', 'discard': 'Discard'}[buffer.policy]
 
     enough = is_enough(world)
-    counts['enough'] += enough
+    places = told_places(emitted, records, sequence)
+    has = set(things_of(writer, world, reported, places))
 
     def specs(numbers):
         return (f'abbrev pub calls_{name} : List Call\ncalls_{name} = {calls}\n\n'
@@ -192,11 +216,11 @@ def statement_of(name, writer, world, reported, counts):
         possible='refl',
         cut=record(pages=pages_name, images_are='refl', patches_are='refl',
                    cut=writer_scripts.cut_proof(writer.payload_size, packets, pages, pages_name)),
-        written='refl', told=told_term(told_places(emitted, records, sequence)), reported='refl', balanced=record(sum='refl'),
+        written='refl', told=told_term(places), reported='refl', balanced=record(sum='refl'),
         caused=outcomes, once='refl') + ')'
     spoilt = dict(reported, cut=reported['cut'] + 1, begun=reported['begun'] + 1)
     return Statement(f'Run{name}', specs(reported), proof, Statement(f'Run{name}', specs(spoilt), proof, uses=[pages_name]),
-                     uses=[pages_name])
+                     uses=[pages_name], has=has)
 
 
 def reported(world, writer):
@@ -205,18 +229,18 @@ def reported(world, writer):
 
 
 def statements(first, wanted, counts):
+    """At least so many writers, and more until each thing that few have is had by some."""
     recorder.record_all()
     service.Writer = writer_scripts.Recorded
-    made, seed = 0, first
-    while made < wanted:
+    made, seed, lacking = 0, first, set(THINGS)
+    while made < wanted or (lacking and seed < first + MOST_SEEDS):
         world = histories.played(seed)
         seed += 1
-        if not world or not world.is_whole:
-            continue
-        for writer in world.service.writers:
-            if made == wanted:
-                break
-            statement = statement_of(f'{seed}_{writer.number}', writer, world, reported(world, writer), counts)
-            if statement:
+        for writer in world.service.writers if world and world.is_whole else ():
+            statement = statement_of(f'{seed}_{writer.number}', writer, world, reported(world, writer))
+            if statement and (made < wanted or lacking & statement.has):
                 made += 1
+                lacking -= statement.has
+                counts.update(statement.has)
                 yield statement
+    counts['writers'] += made

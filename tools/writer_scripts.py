@@ -46,12 +46,19 @@ use Rattle.computed.specs.Words.{IsComputed}
 
 PROOF_HEAD = '''use Rattle.std.proofs.Common.{ℕ, true, false, List, [], ◌∷◌, ◌++◌, replicate, refl, arith}
 use Rattle.std.proofs.lemmas.List.Elements.{All-from_recursion}
-use Rattle.wire_varint.specs.Varint.{varint, groups, tag, redundant}
-use Rattle.trace_model.specs.Encoding.{number_field, bytes_head, bytes_field}
 use Rattle.trace_model.specs.Cut.{IsWellFormedPage}
 '''
 
-UNFOLDING = 'unfolding groups varint tag redundant number_field bytes_head bytes_field\n'
+LEAST = 2               # scripts that take a branch
+MOST_SEEDS = 20000      # seeds that are looked at for a branch
+
+# Branches of the definitions that few scripts take.
+BRANCHES = (
+    'a packet that begins at twelve bytes left', 'a packet that begins no more at eleven bytes left',
+    'a nested length that moves on over 1', 'a nested length that moves on over 2', 'a nested length that moves on over 3',
+    'a packet that is given up with 1 left', 'a packet that is given up with 2 left', 'a packet that is given up with 3 left',
+    'a packet kept behind a lost one where room was left', 'a packet dropped behind a lost one where room was left',
+)
 
 
 # The packets that a list of calls makes, the newest first.
@@ -157,19 +164,38 @@ def chains_of(pages):
 # Playing.
 
 class Recorded(writers.Writer):
-    """A writer that notes its calls, and the images of the chunks that it completes."""
+    """A writer that notes its calls, the images of the chunks that it completes, and which branches it takes."""
 
     def __init__(self, *setup):
         super().__init__(*setup)
         self.calls = []
         self.images = []
         self.is_beginning = False
+        self.branches = set()
+        self.left_room = False      # a packet might have begun in the chunk that was completed last
 
     def begin(self):
         self.is_beginning = True
+        # (a flush behind the lost packet would have the next one begin a chunk anyway)
+        behind_lost = self.lost_before and self.left_room and self.calls[-1] != ('Flushed',)
+        if self.held and self.held.left() in (11, 12):
+            self.branches.add(f'a packet that begins {"no more at eleven" if self.held.left() == 11 else "at twelve"} bytes left')
         super().begin()
+        if behind_lost:
+            self.branches.add(f'a packet {"dropped" if self.thrown_away else "kept"} behind a lost one where room was left')
         self.is_beginning = False
         self.calls.append(('Begun', not self.thrown_away))
+
+    def begin_nested(self, field):
+        was = self.next_position
+        super().begin_nested(field)
+        if self.next_position > was and self.images[-1].rest:
+            self.branches.add(f'a nested length that moves on over {len(self.images[-1].rest)}')
+
+    def give_up(self):
+        if self.held.left():
+            self.branches.add(f'a packet that is given up with {self.held.left()} left')
+        super().give_up()
 
     def write(self, part):
         """A call on the begun packet, which is noted before a stall, and its giving up behind it."""
@@ -190,6 +216,7 @@ class Recorded(writers.Writer):
         super().flush()
 
     def complete_chunk(self, runs_on):
+        self.left_room = self.has_room_to_begin()
         super().complete_chunk(runs_on)
         _, chunk = self.complete[-1]
         self.images.append(Page(chunk.count, chunk.flags, chunk.payload, [patch_of(patch, self.spec.first_id) for patch in chunk.patches]))
@@ -330,6 +357,7 @@ def cut_proof(size, packets, pages, pages_term):
 
 def statement_of(name, run, pages, counts):
     packets = packets_of(run.calls)
+    counts.update(run.writer.branches)
     counts['packets'] += len(packets)
     counts['dropped at begin'] += sum(not packet.kept for packet in packets)
     counts['given up'] += sum(packet.given_up is not None for packet in packets)
@@ -354,7 +382,7 @@ def run_statement(name, run, packets, pages):
     proof = record(possible='refl', cut=record(pages=f'pages_{name}', images_are='refl', patches_are='refl',
                                                cut=cut_proof(run.size, packets, pages, f'pages_{name}')),
                    kept='refl', emitted='refl', counted='refl', refused='refl', read='refl')
-    return Statement(f'Run{name}', specs, proof, uses=[f'pages_{name}'])
+    return Statement(f'Run{name}', specs, proof, uses=[f'pages_{name}'], has=run.writer.branches)
 
 
 def made_run(seed):
@@ -365,12 +393,22 @@ def made_run(seed):
 
 
 def statements(first, wanted, counts):
-    for seed in range(first, first + wanted):
+    """At least so many scripts, and more until each branch of the definitions was taken by some."""
+    made, seed = 0, first
+    while made < wanted or (seed < first + MOST_SEEDS and lacking(counts)):
         run = made_run(seed)
-        pages = run.pages()
-        assert len(chains_of(pages)) == sum(packet.kept for packet in packets_of(run.calls)), seed
-        yield statement_of(str(seed), run, pages, counts)
-    counts['scripts'] += wanted
+        if made < wanted or run.writer.branches & set(lacking(counts)):
+            pages = run.pages()
+            assert len(chains_of(pages)) == sum(packet.kept for packet in packets_of(run.calls)), seed
+            made += 1
+            yield statement_of(str(seed), run, pages, counts)
+        seed += 1
+    counts['scripts'] += made
+
+
+def lacking(counts):
+    """The branches that too few scripts have taken."""
+    return [branch for branch in BRANCHES if counts[branch] < LEAST]
 
 
 # Spoilt runs: each is wrong in one place, and is to be refused.
