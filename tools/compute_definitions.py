@@ -45,8 +45,8 @@ def main():
     parser.add_argument('--characters', type=int, default=60000, help='about the size of a generated file (60,000)')
     parser.add_argument('--keep', metavar='FOLDER', help='leave the scratch folder there')
     parser.add_argument('--spoilt', type=int, default=4, help='how many scripts for each way to spoil one (4)')
-    parser.add_argument('--mutate', metavar='WORDS', nargs='?', const='',
-                        help='try wrong definitions: those that are tried by this kind of run first, or those with these words in their names')
+    parser.add_argument('--mutate', metavar='WORDS', nargs='*',
+                        help='try wrong definitions: all, or those that are tried by this kind of run first, or have these words in their names')
     options = parser.parse_args()
     scratch = options.keep or tempfile.mkdtemp(prefix='computed-')
     try:

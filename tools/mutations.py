@@ -2,8 +2,8 @@
 
 from collections import namedtuple
 
-# `runs` are the kinds of run that are tried, in their order; `tells` names what a run has, or a way to spoil one, that tells of the change,
-# where this is written down: such runs alone are tried then.
+# `runs` are the kinds of run that are tried, in their order; `tells` names what a run has that tells of the change, or ways to spoil one and what
+# it has then, where this is written down: such runs alone are tried.
 Mutation = namedtuple('Mutation', 'name crate file old new runs tells')
 
 CUT = [
@@ -153,7 +153,7 @@ ACCOUNTS = [
     ('takes any packet', 'trace_model', 'Tells.antt', 'bytes ≡ record_of (mark_where front ++ packet) sequence behind', 'bytes ≡ bytes',
      'another byte', 'a packet cut short', 'an invented packet'),
     ('takes any cause', 'trace_model', 'Balance.antt', 'pub cut : counts.cut ≡ count_by (is_absent_under Cut) outcomes',
-     'pub cut : counts.cut ≡ counts.cut', 'a count one too low', 'a packet counted twice'),
+     'pub cut : counts.cut ≡ counts.cut', 'a count one too low', 'packets cut'),
     ('counts deliveries alone', 'trace_model', 'Balance.antt', 'counts.discarded + counts.cut\n', 'counts.discarded\n', 'packets cut'),
 ]
 

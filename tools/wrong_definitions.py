@@ -54,9 +54,8 @@ class Trials:
 
     def is_meant(self, mutation):
         """It is of this kind, or has these words in its name; and there are runs to try it."""
-        words = self.options.mutate
-        is_named = words == mutation.runs[0] if words in self.kinds else words in mutation.name
-        return is_named and any(self.kinds[name].wanted for name in mutation.runs)
+        named = [words == mutation.runs[0] if words in self.kinds else words in mutation.name for words in self.options.mutate]
+        return (any(named) or not named) and any(self.kinds[name].wanted for name in mutation.runs)
 
     def refused_by(self, mutation):
         """What refuses a wrong definition."""
@@ -89,8 +88,10 @@ class Trials:
                     yield from self.spoilt_trials(mutation.tells)
 
     def right_trials(self, name, tells):
-        """The smallest runs with what tells, or all."""
+        """The smallest runs with what tells, or all; none where such tell that are spoilt."""
         kind, statements = self.kinds[name], self.statements_of(name)
+        if set(tells) & set(spoilt_accounts.WAYS):
+            return
         if tells:
             telling = [one for one in statements if one.has & set(tells)]
             for one in sorted(telling, key=lambda one: one.size())[:MOST_INPUTS]:
@@ -115,9 +116,10 @@ class Trials:
         return self.scenarios
 
     def spoilt_trials(self, tells):
-        """Scenarios that are spoilt in the ways that tell, the smallest ones; or all, in all ways."""
+        """Scenarios that are spoilt in the ways that tell, the smallest ones that have what else is named; or all, in all ways."""
         ways = [way for way in spoilt_accounts.WAYS if way in tells or not tells]
-        made = (self.spoilt_trial(account, ways, MOST_SPOILT if tells else 1) for account in self.whole_scenarios() if ways)
+        having = [account for account in self.whole_scenarios() if ways and set(tells) <= {*ways, *account.things}]
+        made = (self.spoilt_trial(account, ways, MOST_SPOILT if tells else 1) for account in having)
         yield from islice(filter(None, made), MOST_INPUTS if tells else None)
 
     def spoilt_trial(self, account, ways, most):
@@ -128,13 +130,13 @@ class Trials:
     # What is answered
 
     def confirm(self, meant):
-        """Computes together, by the right definitions, the runs that are tried where it is said what tells."""
+        """Computes together, by the right definitions, the runs that are tried first where it is said what tells."""
         wanted = [(name, mutation.tells) for mutation in meant if mutation.tells for name in mutation.runs if self.kinds[name].wanted]
-        trials = {trial.title: trial for name, tells in wanted for trial in self.right_trials(name, tells)}
-        for kind in self.kinds.values():
+        trials = {trial.title: trial for name, tells in wanted for trial in islice(self.right_trials(name, tells), 1)}
+        for kind in [kind for kind in self.kinds.values() if kind.wanted]:
             own = {trial.statements[0].name.lower(): trial.title for trial in trials.values() if trial.kind is kind}
             statements = [trial.statements[0] for trial in trials.values() if trial.kind is kind]
-            for number, group in enumerate(grouped(statements, self.options.characters), 1):
+            for number, group in enumerate(grouped(statements, self.options.characters * kind.makers.TIMES_CHARACTERS), 1):
                 began = time.time()
                 refused, said = self.refused_in(Trial(f'{kind.title} {number}', kind, group, True))
                 print(said or f'{kind.title} {number}: {len(group)} runs, {len(refused)} refused in {time.time() - began:.0f} s', flush=True)
@@ -150,10 +152,11 @@ class Trials:
         return self.rightly[trial.title]
 
     def refused_in(self, trial):
-        """Which statements of a file are refused for what they say; and what was said, where it tells nothing of them."""
+        """Which statements of a file are refused for what they say; and what was said, where it tells nothing of them: where none is refused by its
+        name, or where one that is spoilt isn't well formed."""
         proved, refused, text = checked(trial.kind.crate, trial.kind.makers, trial.statements)
-        reasons = re.findall(r'error: `(run\w+)`: ([^\n]*)', text)
-        ill = {name for name, reason in reasons if any(word in reason for word in ILL_FORMED)}
-        if ill or (not refused and not proved):
+        reasons = re.findall(r'error: `run\w+`: ([^\n]*)', text)
+        is_ill = not trial.right and any(word in reason for reason in reasons for word in ILL_FORMED)
+        if is_ill or (not refused and not proved):
             return set(), '\n'.join(line[:300] for line in text.splitlines() if 'error' in line)[:1500] or 'nothing was said'
         return refused, ''
