@@ -11,6 +11,4 @@ pub mod memory;
 pub mod put;
 pub mod script;
 pub mod standard;
-#[cfg(test)]
-mod tests;
 pub mod traits;

@@ -8,8 +8,6 @@ mod laws;
 mod number;
 mod program;
 mod reading;
-#[cfg(test)]
-mod tests;
 
 pub use command::Command;
 pub use laws::words_spell_one_command;

@@ -9,8 +9,6 @@ mod check;
 mod fault;
 mod field;
 mod laws;
-#[cfg(test)]
-mod tests;
 mod walk;
 mod whole;
 

@@ -29,8 +29,6 @@ mod reason;
 mod refusals;
 mod scenario;
 mod scenario_reader;
-#[cfg(test)]
-mod tests;
 
 pub use laws::{
     lines_spell_trees, scenarios_are_accepted, scenarios_are_in_reach, scenarios_are_set_up,

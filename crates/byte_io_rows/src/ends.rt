@@ -2,13 +2,13 @@ ghost use Rattle.std.specs.Prelude.{◌≡◌, List, [], ◌++◌, OnOk, OnErr};
 ghost use Rattle.byte_io.specs.Buffered.{pending_bytes};
 ghost use Rattle.byte_io.specs.Bytes.{after_told, CountsFaults, TakesPart, HandsOn};
 
-use super::buffered::{BufferedSink, PendingBytes};
-use super::fill::{FillFault, fill_all};
-use super::memory::{MemSink, MemSource};
-use super::put::{WriteFault, put_all};
-use super::script::{ScriptSink, ScriptSource};
-use super::standard::{StdSink, StdSource};
-use super::traits::{Failed, Sink, Source};
+use byte_io::buffered::{BufferedSink, PendingBytes};
+use byte_io::fill::{FillFault, fill_all};
+use byte_io::memory::{MemSink, MemSource};
+use byte_io::put::{WriteFault, put_all};
+use byte_io::script::{ScriptSink, ScriptSource};
+use byte_io::standard::{StdSink, StdSource};
+use byte_io::traits::{Failed, Sink, Source};
 use std::alloc::{AllocError, Global};
 use std::io;
 use std::io::{Read, Write};
@@ -35,7 +35,7 @@ fn write_both<T: Sink>(
     }
 }
 
-#[tactic(auto, using(crate::proofs::Told::after_told_again, crate::proofs::Lent::after_told_lent))]
+#[tactic(auto, using(byte_io::proofs::Told::after_told_again, byte_io::proofs::Lent::after_told_lent))]
 fn lend_both<T: Sink>(
     pending: &mut PendingBytes,
     trace: &mut T,
@@ -53,7 +53,7 @@ fn lend_both<T: Sink>(
     put_both(&mut buffered, first, second)
 }
 
-#[tactic(auto, using(crate::proofs::Told::after_told_again, crate::proofs::Told::part_first, crate::proofs::Told::part_second))]
+#[tactic(auto, using(byte_io::proofs::Told::after_told_again, byte_io::proofs::Told::part_first, byte_io::proofs::Told::part_second))]
 fn put_both<O: Sink>(out: &mut O, first: &[u8], second: &[u8]) -> Result<(), WriteFault>
     requires { O.may_write out.old }
     ensures all { OnOk result (O.taken out.new ≡ after_told (O.taken out.old) (first.now ++ second.now)) }

@@ -2,7 +2,7 @@
 //! at each place, and byte by byte.
 ghost use Rattle.std.specs.Prelude.{◌≤◌, length};
 
-use super::*;
+use packet_check::{AcceptCheck, PacketCheck, PacketFault, accepts_packet, check_packet};
 use trace_base::limits::MAX_INPUT;
 
 struct Row {

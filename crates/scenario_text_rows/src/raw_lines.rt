@@ -1,6 +1,9 @@
 //! Lines `raw` by hand: what is said of each, and what is kept of it.
-use super::*;
 use arrayvec::ArrayVec;
+use scenario_text::{
+    LineKind, LineWalk, NumberedLine, RawChunk, RawHeader, RawPatch, ScenarioFault, read_scenario,
+    refusal_line,
+};
 use std::alloc::{AllocError, Global};
 use std::process::Abort;
 use trace_base::limits::MAX_INPUT;

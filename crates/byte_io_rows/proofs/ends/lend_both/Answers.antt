@@ -3,7 +3,7 @@ use Rattle.std.proofs.lemmas.Grind.{common_steps}
 use Rattle.byte_io.specs.Bytes.{Intake}
 use Rattle.byte_io.specs.Buffered.{buffered_loan, pending_bytes}
 use Rattle.byte_io.proofs.Lent.{lent_part}
-use Rattle.byte_io.proofs.tests.lend_both.Goals as goal
+use Rattle.byte_io_rows.proofs.ends.lend_both.Goals as goal
 
 pub returns-clause-part : goal.returns-clause-part
 returns-clause-part g c =

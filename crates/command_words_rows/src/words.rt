@@ -1,6 +1,5 @@
 //! Worked command lines.
-use crate::command::Command;
-use crate::reading::{WordsFault, read_words};
+use command_words::{Command, WordsFault, read_words};
 use std::alloc::AllocError;
 use std::test::Fail;
 
