@@ -384,15 +384,17 @@ module _ (setup : Setup) (count id made : ℕ) (desk : Desk) where
           manned = subst (λ z. IsManned setup next roll (set s.views id (Service 0 made desk Nothing (hears_answer z k flush chunks)))) (sym f.0) turn;
         },
         record {
-          asked = subst (λ (z : ServiceView). flush ≤ asked_in z.letters) (sym f.0) asked;
+          answer = record {
+            asked = subst (λ (z : ServiceView). flush ≤ asked_in z.letters) (sym f.0) asked;
+            none = λ zero. chunks_is ∙ last_none (writer world k) (r.mail.letters.answers k) (sym flush_is ∙ zero);
+            last = subst (λ (z : ServiceView). IsLastAnswer (hears_answer z k flush chunks) k flush chunks) (sym f.0)
+                ∣ (next, kept.owned, mail.letters, refl, record { flush_is = flush_is; chunks_is = chunks_is }) ∣₁;
+            heard = subst (λ (z : ServiceView). IsNoOlder z k flush chunks) (sym f.0)
+                (subst (λ m. IsNoOlder world.service k flush m) (sym chunks_is)
+                (subst (λ m. IsNoOlder world.service k m (last_reply answers).chunks) (sym flush_is) (heard_no_older world k r.mail.letters)));
+            told = λ i tale there of. let low = subst (λ p. tale.flush ≤ last_flush (writer world p).letters.answers) of (f.7 i tale there).2 in omega (arith, low, flush_is);
+          };
           fits = let few = r.mail.few in omega (arith, asked, few);
-          none = λ zero. chunks_is ∙ last_none (writer world k) (r.mail.letters.answers k) (sym flush_is ∙ zero);
-          last = subst (λ (z : ServiceView). IsLastAnswer (hears_answer z k flush chunks) k flush chunks) (sym f.0)
-              ∣ (next, kept.owned, mail.letters, refl, record { flush_is = flush_is; chunks_is = chunks_is }) ∣₁;
-          heard = subst (λ (z : ServiceView). IsNoOlder z k flush chunks) (sym f.0)
-              (subst (λ m. IsNoOlder world.service k flush m) (sym chunks_is)
-              (subst (λ m. IsNoOlder world.service k m (last_reply answers).chunks) (sym flush_is) (heard_no_older world k r.mail.letters)));
-          told = λ i tale there of. let low = subst (λ p. tale.flush ≤ last_flush (writer world p).letters.answers) of (f.7 i tale there).2 in omega (arith, low, flush_is);
           serves = record { new_is = refl; seen = ∣ (next, kept.owned, ap (λ z. hears_answer z k flush chunks) (sym f.0)) ∣₁ };
         },
       )

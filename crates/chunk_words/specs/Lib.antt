@@ -1,3 +1,4 @@
+pub mod Calls
 pub mod Knows
 pub mod Places
 pub mod GoesOn

@@ -19,14 +19,14 @@ use Rattle.chunk_plain.specs.Letters.{AreLetters, knows_request, answers_with, r
 use Rattle.chunk_plain.specs.Owned.{times, IsOwned}
 use Rattle.chunk_plain.specs.Drafts.{draft_at, head_at, ends_by, head_of}
 use Rattle.chunk_plain.specs.Shows.{IsBodyOf, content_of}
-use Rattle.chunk_plain.specs.Setup.{Setup, spot, sequence_of, from_of}
+use Rattle.chunk_plain.specs.Setup.{Setup, spot, sequence_of, from_of, id_at}
 use Rattle.chunk_plain.specs.Words.{WasHad, LooksAt, call_of, event_of, committed_of}
 use Rattle.chunk_schedules.specs.Moves.{IsLastOf}
 use Rattle.chunk_words.specs.declared.moves.Move.{Move}
 use Rattle.chunk_words.specs.declared.moves.Move.TheVariants.{Ask, Claim, Stamp, Begin, SetHeader, Publish, Fetch, Complete as CompleteStep, Call as CallStep, Peek, Find, Know, Miss, Take, Load, Learn, Lift, Release, Event, NoteRead, Recall, Mark, Commit, LearnRequest, Answer, Request, NoteRequest, ReadAnswer, Compare}
 use Rattle.chunk_words.specs.GoesOn.{GoesOn}
 use Rattle.chunk_words.specs.Told.{ShowsAllTold, TellsComplete, IsMarked}
-use Rattle.chunk_words.specs.Knows.{Watch, Nothing, Peeked, Known, Lifted, Here, Tale, Knows, Service, hand_with, made_of, desk_of, stage_of, staged, with_stage, with_mark, no_content, hand_of, view_of, place_of, service_of, watch_of, by_writer, by_service}
+use Rattle.chunk_words.specs.Knows.{Watch, Nothing, Peeked, Known, Lifted, Here, Tale, Desk, Knows, Service, hand_with, made_of, desk_of, stage_of, staged, with_stage, with_mark, no_content, hand_of, view_of, place_of, service_of, watch_of, by_writer, by_service}
 
 -- what a seat knows and has
 abbrev pub Mine : Type 0
@@ -200,15 +200,19 @@ abbrev pub IsNoOlder : ServiceView → (place flush chunks : ℕ) → Type 0
 IsNoOlder view place flush chunks = (n number many : ℕ) → At view.letters n (Heard place number many) → 0 < number
     → (number ≤ flush) × (number ≡ flush → many ≡ chunks)
 
--- The service finds the last answer of the writer at this place: to a request that was made, and no older one than the writer told of or than
--- the service read before; or 0 and 0.
+-- What the service reads as the last answer of the writer at this place: it is to a request that was made, and no older one than the writer
+-- told of or than the service read before; or 0 and 0.
+pub record IsAnswer (view : ServiceView) (desk : Desk) (place flush chunks : ℕ) : Type 0 where
+  pub asked : flush ≤ asked_in view.letters
+  pub none : flush ≡ 0 → chunks ≡ 0
+  pub last : IsLastAnswer (hears_answer view place flush chunks) place flush chunks
+  pub heard : IsNoOlder view place flush chunks
+  pub told : (i : ℕ) (tale : Tale) → At desk.told i tale → tale.place ≡ place → tale.flush ≤ flush
+
+-- The service finds the last answer of the writer at this place.
 pub record ReadsAnswer (place : ℕ) (me : Mine) (found : ℕ) (new : Mine) : Type 0 where
-  pub asked : found / 2 ^ 32 ≤ asked_in (service_of me.0).letters
+  pub answer : IsAnswer (service_of me.0) (desk_of me.0) place (found / 2 ^ 32) (found % 2 ^ 32)
   pub fits : found / 2 ^ 32 < 2 ^ 32
-  pub none : found / 2 ^ 32 ≡ 0 → found % 2 ^ 32 ≡ 0
-  pub last : IsLastAnswer (hears_answer (service_of me.0) place (found / 2 ^ 32) (found % 2 ^ 32)) place (found / 2 ^ 32) (found % 2 ^ 32)
-  pub heard : IsNoOlder (service_of me.0) place (found / 2 ^ 32) (found % 2 ^ 32)
-  pub told : (i : ℕ) (tale : Tale) → At (desk_of me.0).told i tale → tale.place ≡ place → tale.flush ≤ found / 2 ^ 32
   pub serves : Serves (λ view. hears_answer view place (found / 2 ^ 32) (found % 2 ^ 32)) me new
 
 -- A request is noted while the reading pass is with the service, as a read is.
@@ -234,6 +238,14 @@ pub record Recalls (setup : Setup) (me new : Mine) : Type 0 where
 pub record Marks (setup : Setup) (me new : Mine) : Type 0 where
   pub marked : IsMarked setup (service_of me.0) (desk_of me.0) (desk_of new.0)
   pub new_is : new ≡ (Service 0 (made_of me.0) (with_mark (desk_of me.0) marked.world) Nothing (service_of me.0), [])
+
+-- The service watches the chunk, which it found complete by this page word, as the next one to be taken of the writer at this place.
+pub record WatchesNext (setup : Setup) (place chunk word : ℕ) (header : ChunkHeader) (me : Mine) : Type 0 where
+  pub complete : HasState word (spot setup chunk).place Complete
+  pub watch : watch_of me.0 ≡ Known chunk word (packed header)
+  pub fields : unpacked (packed header) ≡ header
+  pub writer_is : header.writer_id ≡ place + 1
+  pub next : header.chunk_id ≡ id_at setup place (taken_of (service_of me.0) place).count
 
 -- The chunk is taken, whose page word and header were found, as the next one of the writer at this place: the slot is out with the service.
 pub record Takes (setup : Setup) (place chunk size word : ℕ) (header : ChunkHeader) (me new : Mine) : Type 0 where

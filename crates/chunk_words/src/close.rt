@@ -5,8 +5,8 @@ ghost use Rattle.chunk_words.specs.Closed.{HasAllSeats, IsUnused, IsAccount, All
 ghost use Rattle.chunk_plain.specs.Views.{ServiceView};
 ghost use Rattle.chunk_words.specs.GoesOn.{GoesOn};
 ghost use Rattle.chunk_words.specs.Knows.{Here, Service, made_of, desk_of, joined_of, stage_of, watch_of, service_of, view_of, passed_of, with_view, with_views};
-ghost use Rattle.chunk_words.specs.Seats.{IsServiceIdle, IsIdle};
-ghost use Rattle.chunk_words.specs.Sits.{Attends, Passes};
+ghost use Rattle.chunk_words.specs.Seats.{IsIdle};
+ghost use Rattle.chunk_words.specs.Sits.{Attends, Passes, CanServe};
 
 use crate::host::HostTable;
 use crate::seats::{ReadPass, ServiceSeat, WriterSeat};
@@ -111,8 +111,7 @@ impl HostTable {
 
     /// The service takes in the seat of the next writer.
     fn join_one(&self, service: &mut ServiceSeat, mine: WriterSeat)
-        requires seat { service.old.seat.table_id ≡ self.now.table.shared.table_id }
-        requires idle { IsServiceIdle service.old.seat.me }
+        requires seat { CanServe self.now service.old }
         requires joined { mine.seat.table_id ≡ self.now.table.shared.table_id }
         requires rests { IsIdle mine.place mine.seat.me }
         requires next { mine.place ≡ length (joined_of service.old.seat.me.0) }

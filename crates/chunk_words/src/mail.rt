@@ -3,16 +3,14 @@
 //! before it, and how many chunks it had completed by then. Each word is stored by one seat alone.
 //! A request is noted while the reading pass is joined to the service's seat, as a read is, and the
 //! pass gives notice of requests to writers.
-ghost use Rattle.std.specs.Prelude.{◌≡◌, ℕ, ◌+◌, ◌-◌, ◌/◌, ◌%◌, ◌^◌, ◌<◌, ◌≤◌, [], length, take};
-ghost use Rattle.chunk_plain.specs.Views.{At, asked_in};
+ghost use Rattle.std.specs.Prelude.{◌≡◌, ◌+◌, ◌-◌, ◌/◌, ◌%◌, ◌<◌, ◌≤◌, length, take};
+ghost use Rattle.chunk_plain.specs.Views.{asked_in};
 ghost use Rattle.chunk_plain.specs.Histories.{completed_images};
 ghost use Rattle.chunk_plain.specs.Letters.{last_flush, knows_request, answers_with, requests, hears_answer};
 ghost use Rattle.chunk_plain.specs.Owned.{held_count};
-ghost use Rattle.chunk_words.specs.GoesOn.{GoesOn};
-ghost use Rattle.chunk_words.specs.Knows.{Tale, Here, Away, Unmade, view_of, service_of, desk_of, stage_of, passed_of, staged, with_stage, later};
-ghost use Rattle.chunk_words.specs.Moves.{LearnsRequest, GivesAnswer, IsLastAnswer, IsNoOlder, ReadsAnswer, NotesRequest, Compares, Serves};
-ghost use Rattle.chunk_words.specs.Seats.{IsIdle, IsServiceIdle};
-ghost use Rattle.chunk_words.specs.Sits.{Sits, Attends, Passes};
+ghost use Rattle.chunk_words.specs.Knows.{Here, Unmade, view_of, service_of, desk_of, stage_of, passed_of, staged, later};
+ghost use Rattle.chunk_words.specs.Moves.{LearnsRequest, GivesAnswer, ReadsAnswer, NotesRequest, Compares, Serves, IsAnswer};
+ghost use Rattle.chunk_words.specs.Sits.{Sits, Attends, Passes, CanStep, Leaves, CanServe, ServiceLeaves, JoinsPass};
 
 use crate::host::HostTable;
 use crate::moves::Move;
@@ -90,12 +88,7 @@ impl HostTable {
         requires least { 1 ≤ writer }
         requires most { writer ≤ length self.now.layout.writers }
         ensures view { service_of seat.new.seat.me.0 ≡ hears_answer (service_of seat.old.seat.me.0) (writer - 1) result.0 result.1 }
-        ensures asked { result.0 ≤ asked_in (service_of seat.old.seat.me.0).letters }
-        ensures told { (i : ℕ) (tale : Tale) → At (desk_of seat.old.seat.me.0).told i tale → tale.place ≡ writer - 1
-            → tale.flush ≤ result.0 }
-        ensures none { result.0 ≡ 0 → result.1 ≡ 0 }
-        ensures last { IsLastAnswer (service_of seat.new.seat.me.0) (writer - 1) result.0 result.1 }
-        ensures heard { IsNoOlder (service_of seat.old.seat.me.0) (writer - 1) result.0 result.1 }
+        ensures answer { IsAnswer (service_of seat.old.seat.me.0) (desk_of seat.old.seat.me.0) (writer - 1) result.0 result.1 }
         ensures desk { desk_of seat.new.seat.me.0 ≡ desk_of seat.old.seat.me.0 }
         ensures seat { Attends self.now seat.new }
     {
@@ -112,12 +105,10 @@ impl HostTable {
         requires seat { Attends self.now seat.old }
         requires pass { Passes self.now pass.old }
         requires next { flush ≡ asked_in (service_of seat.old.seat.me.0).letters + 1 }
-        ensures goes_on { GoesOn (passed_of pass.old.seat.me.0) (service_of seat.old.seat.me.0) }
+        ensures joins { JoinsPass self.now pass.old pass.new seat.old seat.new }
+        ensures seat { Attends self.now seat.new }
         ensures view { service_of seat.new.seat.me.0 ≡ requests (service_of seat.old.seat.me.0) }
         ensures known { passed_of pass.new.seat.me.0 ≡ service_of seat.new.seat.me.0 }
-        ensures desk { desk_of seat.new.seat.me.0 ≡ with_stage (desk_of seat.old.seat.me.0) Away }
-        ensures seat { Attends self.now seat.new }
-        ensures pass { Passes self.now pass.new }
     {
         let table = &self.table;
         let inner = table.shared.split_seat::<HandsOn>(&mut pass.seat);
@@ -131,12 +122,10 @@ impl HostTable {
     pub fn compare(&self, seat: &mut ServiceSeat, pass: &mut ReadPass)
         requires seat { Attends self.now seat.old }
         requires pass { Passes self.now pass.old }
-        ensures goes_on { GoesOn (passed_of pass.old.seat.me.0) (service_of seat.old.seat.me.0) }
+        ensures joins { JoinsPass self.now pass.old pass.new seat.old seat.new }
+        ensures seat { Attends self.now seat.new }
         ensures view { service_of seat.new.seat.me.0 ≡ service_of seat.old.seat.me.0 }
         ensures known { passed_of pass.new.seat.me.0 ≡ passed_of pass.old.seat.me.0 }
-        ensures desk { desk_of seat.new.seat.me.0 ≡ with_stage (desk_of seat.old.seat.me.0) Away }
-        ensures seat { Attends self.now seat.new }
-        ensures pass { Passes self.now pass.new }
     {
         let table = &self.table;
         let inner = table.shared.split_seat::<HandsOn>(&mut pass.seat);
@@ -165,11 +154,8 @@ impl HostTable {
     }
 
     fn step_learn_request(&self, seat: &mut WriterSeat) -> u64
-        requires seat { seat.old.seat.table_id ≡ self.now.table.shared.table_id }
-        requires idle { IsIdle seat.old.place seat.old.seat.me }
-        ensures seat { seat.new.seat.table_id ≡ seat.old.seat.table_id }
-        ensures place { seat.new.place ≡ seat.old.place }
-        ensures me { LearnsRequest seat.old.seat.me result seat.new.seat.me }
+        requires seat { CanStep self.now seat.old }
+        ensures { Leaves seat.old seat.new (λ me new. LearnsRequest me result new) }
     {
         let table = &self.table;
         make_load(
@@ -181,16 +167,13 @@ impl HostTable {
     }
 
     fn step_answer(&self, seat: &mut WriterSeat, flush: u32, chunks: u32)
-        requires seat { seat.old.seat.table_id ≡ self.now.table.shared.table_id }
-        requires idle { IsIdle seat.old.place seat.old.seat.me }
+        requires seat { CanStep self.now seat.old }
         requires place { seat.old.place < length self.now.layout.writers }
         requires known { flush ≡ (view_of seat.old.seat.me.0).letters.known }
         requires newer { last_flush (view_of seat.old.seat.me.0).letters.answers < flush }
         requires chunks { chunks ≡ length (completed_images (view_of seat.old.seat.me.0).begun) }
         requires none_held { held_count (take chunks (view_of seat.old.seat.me.0).begun) ≡ 0 }
-        ensures seat { seat.new.seat.table_id ≡ seat.old.seat.table_id }
-        ensures place { seat.new.place ≡ seat.old.place }
-        ensures me { GivesAnswer flush chunks seat.old.seat.me seat.new.seat.me }
+        ensures { Leaves seat.old seat.new (GivesAnswer flush chunks) }
     {
         let index = self.answer_index(seat.place);
         let word = flush as u64 * 4_294_967_296 + chunks as u64;
@@ -200,12 +183,10 @@ impl HostTable {
     }
 
     fn step_request(&self, seat: &mut ServiceSeat, flush: u32)
-        requires seat { seat.old.seat.table_id ≡ self.now.table.shared.table_id }
-        requires idle { IsServiceIdle seat.old.seat.me }
+        requires seat { CanServe self.now seat.old }
         requires none_made { stage_of seat.old.seat.me.0 ≡ Unmade }
         requires next { flush ≡ asked_in (service_of seat.old.seat.me.0).letters + 1 }
-        ensures seat { seat.new.seat.table_id ≡ seat.old.seat.table_id }
-        ensures me { Serves (λ view. requests view) seat.old.seat.me seat.new.seat.me }
+        ensures { ServiceLeaves seat.old seat.new (Serves (λ view. requests view)) }
     {
         let step = Move::Request { flush };
         let table = &self.table;
@@ -219,12 +200,10 @@ impl HostTable {
     }
 
     fn step_note_request(&self, seat: &mut ServiceSeat, flush: u32)
-        requires seat { seat.old.seat.table_id ≡ self.now.table.shared.table_id }
-        requires idle { IsServiceIdle seat.old.seat.me }
+        requires seat { CanServe self.now seat.old }
         requires here { stage_of seat.old.seat.me.0 ≡ Here (staged (stage_of seat.old.seat.me.0)) }
         requires next { flush ≡ asked_in (service_of seat.old.seat.me.0).letters + 1 }
-        ensures seat { seat.new.seat.table_id ≡ seat.old.seat.table_id }
-        ensures me { NotesRequest seat.old.seat.me seat.new.seat.me }
+        ensures { ServiceLeaves seat.old seat.new NotesRequest }
     {
         let step = Move::NoteRequest { flush };
         let table = &self.table;
@@ -238,11 +217,9 @@ impl HostTable {
     }
 
     fn step_read_answer(&self, seat: &mut ServiceSeat, place: u16) -> u64
-        requires seat { seat.old.seat.table_id ≡ self.now.table.shared.table_id }
-        requires idle { IsServiceIdle seat.old.seat.me }
+        requires seat { CanServe self.now seat.old }
         requires place { place < length self.now.layout.writers }
-        ensures seat { seat.new.seat.table_id ≡ seat.old.seat.table_id }
-        ensures me { ReadsAnswer place seat.old.seat.me result seat.new.seat.me }
+        ensures { ServiceLeaves seat.old seat.new (λ me new. ReadsAnswer place me result new) }
     {
         let index = self.answer_index(place);
         let step = Move::ReadAnswer { writer: place };
@@ -251,11 +228,9 @@ impl HostTable {
     }
 
     fn step_compare(&self, seat: &mut ServiceSeat)
-        requires seat { seat.old.seat.table_id ≡ self.now.table.shared.table_id }
-        requires idle { IsServiceIdle seat.old.seat.me }
+        requires seat { CanServe self.now seat.old }
         requires here { stage_of seat.old.seat.me.0 ≡ Here (staged (stage_of seat.old.seat.me.0)) }
-        ensures seat { seat.new.seat.table_id ≡ seat.old.seat.table_id }
-        ensures me { Compares seat.old.seat.me seat.new.seat.me }
+        ensures { ServiceLeaves seat.old seat.new Compares }
     {
         let table = &self.table;
         make_load(&table.shared, &mut seat.seat, self.spare, &Move::Compare);

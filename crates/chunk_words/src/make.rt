@@ -1,16 +1,14 @@
 //! A table that threads share is made with the seats of all writers and the service.
-ghost use Rattle.std.specs.Prelude.{◌≡◌, ℕ, ◌+◌, ◌^◌, ◌<◌, ◌≤◌, All, Some, [], length, IfOk, OnOk};
+ghost use Rattle.std.specs.Prelude.{◌≡◌, ◌+◌, ◌^◌, ◌<◌, ◌≤◌, All, Some, [], length, IfOk, OnOk};
 ghost use Rattle.trace_base.specs.declared.limits.TheConstants.{MAX_PRODUCERS, MAX_WRITERS, MAX_PAGES};
 ghost use Rattle.chunk_plain.specs.Setup.{IsLaid, range_of};
-ghost use Rattle.chunk_plain.specs.Laying.{setup_of};
 ghost use Rattle.chunk_plain.specs.Shows.{IsFreeBody};
 ghost use Rattle.chunk_plain.specs.Views.{newcomer};
 ghost use Rattle.chunk_plain.specs.Plain.{first_world};
-ghost use Rattle.chunk_words.specs.Knows.{Knows, Service, Writer, Nothing, Watch, first_desk, made_of, desk_of, watch_of, service_of};
-ghost use Rattle.chunk_words.specs.Made.{HasStarts, HasFreeBodies, HasWriterSeats};
+ghost use Rattle.chunk_words.specs.Knows.{Service, Writer, Nothing, first_desk, made_of, desk_of, watch_of, service_of};
+ghost use Rattle.chunk_words.specs.Made.{HasStarts, HasFreeBodies, HasWriterSeats, IsNewTable};
 ghost use Rattle.chunk_words.specs.Places.{request_place};
-ghost use Rattle.chunk_words.specs.Seats.{IsServiceIdle};
-ghost use Rattle.chunk_words.specs.Sits.{Attends, HasNoPass};
+ghost use Rattle.chunk_words.specs.Sits.{CanServe};
 
 use crate::host::{HostTable, LINE_WORDS};
 use crate::seats::{ServiceSeat, WriterSeat};
@@ -45,11 +43,7 @@ impl HostTable {
         requires some_page { All (λ producer. 1 ≤ producer.pages) producers.now }
         requires pages { All (λ producer. producer.pages ≤ MAX_PAGES) producers.now }
         requires writers { length writers.now ≤ MAX_WRITERS }
-        ensures setup { IfOk result (λ made. made.0.layout ≡ setup_of producers.now writers.now) }
-        ensures seats { IfOk result (λ made. HasWriterSeats made.0 (length writers.now) made.1.items) }
-        ensures service { IfOk result (λ made. Attends made.0 made.2) }
-        ensures service_view { IfOk result (λ made. service_of made.2.seat.me.0 ≡ (first_world made.0.layout).service) }
-        ensures no_pass { IfOk result (λ made. HasNoPass made.2) }
+        ensures { IfOk result (λ made. IsNewTable producers.now writers.now made.0 made.1.items made.2) }
     {
         let layout = Layout::make(alloc, producers, writers)?;
         let (starts, requests) = payload_starts(alloc, &layout)?;
@@ -104,8 +98,7 @@ impl HostTable {
 
     /// The service makes the next writer's seat.
     fn next_seat(&self, service: &mut ServiceSeat) -> ChunkSeat
-        requires seat { service.old.seat.table_id ≡ self.now.table.shared.table_id }
-        requires idle { IsServiceIdle service.old.seat.me }
+        requires seat { CanServe self.now service.old }
         requires inside { made_of service.old.seat.me.0 < length self.now.layout.writers }
         ensures seat { service.new.seat.table_id ≡ service.old.seat.table_id }
         ensures me { service.new.seat.me ≡ (

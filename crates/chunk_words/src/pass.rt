@@ -4,11 +4,10 @@
 ghost use Rattle.std.specs.Prelude.{◌≡◌, ◌<◌, []};
 ghost use Rattle.chunk_plain.specs.Steps.{notes};
 ghost use Rattle.chunk_plain.specs.Words.{IsReadEvent, event_of};
-ghost use Rattle.chunk_words.specs.GoesOn.{GoesOn};
 ghost use Rattle.chunk_words.specs.Knows.{Service, Pass, Here, Away, Unmade, made_of, desk_of, watch_of, service_of, stage_of, passed_of, with_stage, staged};
 ghost use Rattle.chunk_words.specs.Moves.{NotesRead};
-ghost use Rattle.chunk_words.specs.Seats.{IsServiceIdle, IsPass};
-ghost use Rattle.chunk_words.specs.Sits.{Attends, Passes};
+ghost use Rattle.chunk_words.specs.Seats.{IsPass};
+ghost use Rattle.chunk_words.specs.Sits.{Attends, Passes, CanServe, ServiceLeaves, JoinsPass};
 
 use crate::host::HostTable;
 use crate::moves::Move;
@@ -96,12 +95,10 @@ impl HostTable {
         requires seat { Attends self.now seat.old }
         requires pass { Passes self.now pass.old }
         requires read { IsReadEvent event }
-        ensures goes_on { GoesOn (passed_of pass.old.seat.me.0) (service_of seat.old.seat.me.0) }
+        ensures joins { JoinsPass self.now pass.old pass.new seat.old seat.new }
+        ensures seat { Attends self.now seat.new }
         ensures view { service_of seat.new.seat.me.0 ≡ notes (service_of seat.old.seat.me.0) (event_of event) }
         ensures known { passed_of pass.new.seat.me.0 ≡ service_of seat.new.seat.me.0 }
-        ensures desk { desk_of seat.new.seat.me.0 ≡ with_stage (desk_of seat.old.seat.me.0) Away }
-        ensures seat { Attends self.now seat.new }
-        ensures pass { Passes self.now pass.new }
     {
         let table = &self.table;
         let inner = table.shared.split_seat::<HandsOn>(&mut pass.seat);
@@ -112,8 +109,7 @@ impl HostTable {
 
     /// The service takes in the reading pass.
     pub(crate) fn take_pass(&self, seat: &mut ServiceSeat, pass: ChunkSeat)
-        requires seat { seat.old.seat.table_id ≡ self.now.table.shared.table_id }
-        requires idle { IsServiceIdle seat.old.seat.me }
+        requires seat { CanServe self.now seat.old }
         requires joined { pass.table_id ≡ self.now.table.shared.table_id }
         requires pass { IsPass pass.me }
         ensures seat { seat.new.seat.table_id ≡ seat.old.seat.table_id }
@@ -130,11 +126,9 @@ impl HostTable {
 
     /// Notes a read, while the reading pass is with the service.
     fn step_read(&self, seat: &mut ServiceSeat, event: ServiceEvent)
-        requires seat { seat.old.seat.table_id ≡ self.now.table.shared.table_id }
-        requires idle { IsServiceIdle seat.old.seat.me }
+        requires seat { CanServe self.now seat.old }
         requires here { stage_of seat.old.seat.me.0 ≡ Here (staged (stage_of seat.old.seat.me.0)) }
-        ensures seat { seat.new.seat.table_id ≡ seat.old.seat.table_id }
-        ensures me { NotesRead (event_of event) seat.old.seat.me seat.new.seat.me }
+        ensures { ServiceLeaves seat.old seat.new (NotesRead (event_of event)) }
     {
         let table = &self.table;
         make_load(
@@ -147,8 +141,7 @@ impl HostTable {
 
     /// The service gives the reading pass back, which it has.
     pub(crate) fn give_pass(&self, seat: &mut ServiceSeat) -> ChunkSeat
-        requires seat { seat.old.seat.table_id ≡ self.now.table.shared.table_id }
-        requires idle { IsServiceIdle seat.old.seat.me }
+        requires seat { CanServe self.now seat.old }
         requires here { stage_of seat.old.seat.me.0 ≡ Here (staged (stage_of seat.old.seat.me.0)) }
         ensures seat { seat.new.seat.table_id ≡ seat.old.seat.table_id }
         ensures me { seat.new.seat.me

@@ -1,21 +1,21 @@
 //! The calls of the service's seat. None tries again, waits or takes memory.
-ghost use Rattle.std.specs.Prelude.{◌≡◌, ℕ, ◌+◌, ◌-◌, ◌*◌, ◌/◌, ◌<◌, ◌≤◌, None, [], length, vec_len, IfOk, IfErr};
+ghost use Rattle.std.specs.Prelude.{◌≡◌, ℕ, ◌+◌, ◌-◌, ◌*◌, ◌/◌, ◌<◌, ◌≤◌, None, length, vec_len, IfOk, IfErr};
 ghost use Rattle.trace_base.specs.declared.limits.TheConstants.{MAX_FRAGMENTS};
 ghost use Rattle.page_geometry.specs.declared.chunk_header.TheConstants.{MAX_FLAGS};
-ghost use Rattle.chunk_plain.specs.Setup.{spot, id_at, from_of};
+ghost use Rattle.chunk_plain.specs.Setup.{spot, from_of};
 ghost use Rattle.chunk_plain.specs.Views.{taken_of};
 ghost use Rattle.chunk_plain.specs.Owned.{times};
 ghost use Rattle.chunk_plain.specs.Steps.{looks_at, takes_in, learns, lets_go, notes, notes_commit};
-ghost use Rattle.chunk_plain.specs.Words.{IsServing, LooksAt, ShowsFound, IsTakenPayload, TakesChunk, FindsOther, IsReadEvent, event_of, committed_of};
-ghost use Rattle.page_geometry.specs.Header.{packed, unpacked};
-ghost use Rattle.page_geometry.specs.PageBits.{HasState};
+ghost use Rattle.chunk_plain.specs.Words.{IsServing, LooksAt, TakesChunk, FindsOther, IsReadEvent, event_of, committed_of};
+ghost use Rattle.page_geometry.specs.Header.{packed};
 ghost use Rattle.page_geometry.specs.declared.chunk_state.ChunkState.TheVariants.{Complete};
 ghost use Rattle.chunk_plain.specs.Payload.{byte_of, byte_in};
 ghost use Rattle.chunk_plain.specs.Shows.{content_of};
-ghost use Rattle.chunk_words.specs.Knows.{Known, Unmade, desk_of, stage_of, service_of, watch_of};
-ghost use Rattle.chunk_words.specs.Moves.{LoadsUpTo, FindsReady, Serves};
-ghost use Rattle.chunk_words.specs.Seats.{IsService, IsServiceIdle};
-ghost use Rattle.chunk_words.specs.Sits.{Attends};
+ghost use Rattle.chunk_words.specs.Calls.{AsksForNext, LoadsPayload};
+ghost use Rattle.chunk_words.specs.Knows.{Unmade, desk_of, stage_of, service_of};
+ghost use Rattle.chunk_words.specs.Moves.{LoadsUpTo, FindsReady, Serves, WatchesNext};
+ghost use Rattle.chunk_words.specs.Seats.{IsService};
+ghost use Rattle.chunk_words.specs.Sits.{Attends, CanServe, ServiceLeaves};
 
 use crate::host::HostTable;
 use crate::seats::ServiceSeat;
@@ -49,11 +49,8 @@ impl HostTable {
         requires seat { Attends self.now seat.old }
         requires chunk { chunk < length self.now.layout.spots }
         requires size { length into.old ≡ (spot self.now.layout chunk).payload_size }
-        ensures size { length into.new ≡ length into.old }
+        ensures loads { LoadsPayload (service_of seat.old.seat.me.0) chunk into.old into.new }
         ensures view { service_of seat.new.seat.me.0 ≡ service_of seat.old.seat.me.0 }
-        ensures found { ShowsFound (service_of seat.old.seat.me.0) chunk into.new }
-        ensures read { 0 < times chunk (service_of seat.old.seat.me.0).reading
-            → ∥ IsTakenPayload (service_of seat.old.seat.me.0) into.new ∥₁ }
         ensures desk { desk_of seat.new.seat.me.0 ≡ desk_of seat.old.seat.me.0 }
         ensures seat { Attends self.now seat.new }
     {
@@ -93,10 +90,7 @@ impl HostTable {
         id: u32,
     ) -> Result<Taken, NotComplete>
         requires seat { Attends self.now seat.old }
-        requires chunk { chunk < length self.now.layout.spots }
-        requires writer { 1 ≤ writer }
-        requires writers { writer ≤ length self.now.layout.writers }
-        requires id { id ≡ id_at self.now.layout (writer - 1) (taken_of (service_of seat.old.seat.me.0) (writer - 1)).count }
+        requires next { AsksForNext self.now.layout (service_of seat.old.seat.me.0) chunk writer id }
         ensures taken { IfOk result (λ taken. TakesChunk self.now.layout chunk writer id taken (service_of seat.old.seat.me.0)
             (service_of seat.new.seat.me.0)) }
         ensures other { IfErr result (λ found. FindsOther self.now.layout chunk writer id found (service_of seat.old.seat.me.0)
@@ -160,22 +154,16 @@ impl HostTable {
         word: u64,
         header: ChunkHeader,
     ) -> CommitBody
-        requires seat { seat.old.seat.table_id ≡ self.now.table.shared.table_id }
-        requires idle { IsServiceIdle seat.old.seat.me }
+        requires seat { CanServe self.now seat.old }
         requires chunk { chunk < length self.now.layout.spots }
         requires writer { writer < length self.now.layout.writers }
         requires serving { IsServing self.now.layout (service_of seat.old.seat.me.0) }
-        requires complete { HasState word (spot self.now.layout chunk).place Complete }
-        requires watch { watch_of seat.old.seat.me.0 ≡ Known chunk word (packed header) }
-        requires fields { unpacked (packed header) ≡ header }
-        requires writer_is { header.writer_id ≡ writer + 1 }
-        requires next { header.chunk_id ≡ id_at self.now.layout writer (taken_of (service_of seat.old.seat.me.0) writer).count }
-        ensures seat { seat.new.seat.table_id ≡ seat.old.seat.table_id }
+        requires next { WatchesNext self.now.layout writer chunk word header seat.old.seat.me }
         ensures size { vec_len result.payload ≡ (spot self.now.layout chunk).payload_size }
-        ensures me { Serves
+        ensures left { ServiceLeaves seat.old seat.new (Serves
             (λ view. learns (takes_in (looks_at view chunk word (packed header) None) writer chunk) writer
             (content_of (from_of self.now.layout writer) writer (taken_of (service_of seat.old.seat.me.0) writer).count
-            (record { count = header.count; flags = header.flags }) result)) seat.old.seat.me seat.new.seat.me }
+            (record { count = header.count; flags = header.flags }) result))) }
     {
         self.step_take(seat, writer, chunk, word, header);
         let mut body = self.body_out(&mut seat.seat, chunk);

@@ -1,18 +1,19 @@
 //! The steps of the service's seat: each is one atomic step on the table.
-ghost use Rattle.std.specs.Prelude.{◌≡◌, ℕ, ◌+◌, ◌<◌, None, length, vec_len, IsSome, IfSome};
-ghost use Rattle.page_geometry.specs.Header.{packed, unpacked};
+ghost use Rattle.std.specs.Prelude.{◌≡◌, ◌+◌, ◌<◌, length, vec_len, IsSome, IfSome};
+ghost use Rattle.page_geometry.specs.Header.{packed};
 ghost use Rattle.page_geometry.specs.PageBits.{HasState};
 ghost use Rattle.page_geometry.specs.declared.chunk_state.ChunkState.TheVariants.{Complete};
-ghost use Rattle.chunk_plain.specs.Setup.{spot, id_at};
+ghost use Rattle.chunk_plain.specs.Setup.{spot};
 ghost use Rattle.chunk_plain.specs.Views.{taken_of};
 ghost use Rattle.chunk_plain.specs.Owned.{times};
 ghost use Rattle.chunk_plain.specs.Steps.{learns, lets_go, notes, notes_commit};
 ghost use Rattle.chunk_plain.specs.Words.{IsReadEvent, event_of, committed_of};
 ghost use Rattle.chunk_words.specs.Knows.{Peeked, Known, Lifted, Unmade, desk_of, stage_of, watch_of, service_of};
-ghost use Rattle.chunk_words.specs.Moves.{watched, body_in, Peeks, Looks, ReadsHeader, Misses, Serves, Takes, Loads, Lifts};
+ghost use Rattle.chunk_words.specs.Moves.{watched, body_in, Peeks, Looks, ReadsHeader, Misses, Serves, Takes, Loads, Lifts, WatchesNext};
 ghost use Rattle.chunk_words.specs.Places.{payload_start, payload_words};
 ghost use Rattle.chunk_words.specs.Told.{TellsComplete};
-ghost use Rattle.chunk_words.specs.Seats.{IsServiceIdle, IsService, HasLifted};
+ghost use Rattle.chunk_words.specs.Seats.{IsService, HasLifted};
+ghost use Rattle.chunk_words.specs.Sits.{CanServe, ServiceLeaves};
 
 use crate::host::HostTable;
 use crate::moves::Move;
@@ -26,11 +27,9 @@ use page_geometry::masks::{release_mask, take_mask};
 impl HostTable {
     /// Reads the page word of a chunk.
     pub(crate) fn step_peek(&self, seat: &mut ServiceSeat, chunk: u32) -> u64
-        requires seat { seat.old.seat.table_id ≡ self.now.table.shared.table_id }
-        requires idle { IsServiceIdle seat.old.seat.me }
+        requires seat { CanServe self.now seat.old }
         requires chunk { chunk < length self.now.layout.spots }
-        ensures seat { seat.new.seat.table_id ≡ seat.old.seat.table_id }
-        ensures me { Peeks self.now.layout chunk seat.old.seat.me result seat.new.seat.me }
+        ensures { ServiceLeaves seat.old seat.new (λ me new. Peeks self.now.layout chunk me result new) }
     {
         let spot = self.layout.spot(chunk);
         let step = Move::Peek {
@@ -48,13 +47,11 @@ impl HostTable {
 
     /// Reads the header word of a chunk whose page word was found, and notes the look.
     pub(crate) fn step_find(&self, seat: &mut ServiceSeat, chunk: u32, word: u64) -> u64
-        requires seat { seat.old.seat.table_id ≡ self.now.table.shared.table_id }
-        requires idle { IsServiceIdle seat.old.seat.me }
+        requires seat { CanServe self.now seat.old }
         requires chunk { chunk < length self.now.layout.spots }
         requires watch { watch_of seat.old.seat.me.0 ≡ Peeked chunk word }
         requires told { TellsComplete self.now.layout chunk word (service_of seat.old.seat.me.0) (desk_of seat.old.seat.me.0) }
-        ensures seat { seat.new.seat.table_id ≡ seat.old.seat.table_id }
-        ensures me { Looks self.now.layout chunk word seat.old.seat.me result seat.new.seat.me }
+        ensures { ServiceLeaves seat.old seat.new (λ me new. Looks self.now.layout chunk word me result new) }
     {
         let step = Move::Find {
             layout: &self.layout,
@@ -72,13 +69,11 @@ impl HostTable {
 
     /// Reads the header word of a chunk that was found complete.
     pub(crate) fn step_know(&self, seat: &mut ServiceSeat, chunk: u32, word: u64) -> u64
-        requires seat { seat.old.seat.table_id ≡ self.now.table.shared.table_id }
-        requires idle { IsServiceIdle seat.old.seat.me }
+        requires seat { CanServe self.now seat.old }
         requires chunk { chunk < length self.now.layout.spots }
         requires complete { HasState word (spot self.now.layout chunk).place Complete }
         requires watch { watch_of seat.old.seat.me.0 ≡ Peeked chunk word }
-        ensures seat { seat.new.seat.table_id ≡ seat.old.seat.table_id }
-        ensures me { ReadsHeader chunk word seat.old.seat.me result seat.new.seat.me }
+        ensures { ServiceLeaves seat.old seat.new (λ me new. ReadsHeader chunk word me result new) }
     {
         let table = &self.table;
         make_load(
@@ -97,12 +92,10 @@ impl HostTable {
         word: u64,
         header: ChunkHeader,
     )
-        requires seat { seat.old.seat.table_id ≡ self.now.table.shared.table_id }
-        requires idle { IsServiceIdle seat.old.seat.me }
+        requires seat { CanServe self.now seat.old }
         requires watch { watch_of seat.old.seat.me.0 ≡ Known chunk word (packed header) }
         requires complete { HasState word (spot self.now.layout chunk).place Complete }
-        ensures seat { seat.new.seat.table_id ≡ seat.old.seat.table_id }
-        ensures me { Misses chunk word header seat.old.seat.me seat.new.seat.me }
+        ensures { ServiceLeaves seat.old seat.new (Misses chunk word header) }
     {
         let step = Move::Miss {
             chunk,
@@ -122,18 +115,11 @@ impl HostTable {
         word: u64,
         header: ChunkHeader,
     )
-        requires seat { seat.old.seat.table_id ≡ self.now.table.shared.table_id }
-        requires idle { IsServiceIdle seat.old.seat.me }
+        requires seat { CanServe self.now seat.old }
         requires chunk { chunk < length self.now.layout.spots }
         requires writer { writer < length self.now.layout.writers }
-        requires complete { HasState word (spot self.now.layout chunk).place Complete }
-        requires watch { watch_of seat.old.seat.me.0 ≡ Known chunk word (packed header) }
-        requires fields { unpacked (packed header) ≡ header }
-        requires writer_is { header.writer_id ≡ writer + 1 }
-        requires next { header.chunk_id ≡ id_at self.now.layout writer (taken_of (service_of seat.old.seat.me.0) writer).count }
-        ensures seat { seat.new.seat.table_id ≡ seat.old.seat.table_id }
-        ensures me { Takes self.now.layout writer chunk (spot self.now.layout chunk).payload_size word header
-            seat.old.seat.me seat.new.seat.me }
+        requires next { WatchesNext self.now.layout writer chunk word header seat.old.seat.me }
+        ensures { ServiceLeaves seat.old seat.new (Takes self.now.layout writer chunk (spot self.now.layout chunk).payload_size word header) }
     {
         let spot = self.layout.spot(chunk);
         let step = Move::Take {
@@ -167,8 +153,7 @@ impl HostTable {
         requires chunk { chunk < length self.now.layout.spots }
         requires start { start ≡ payload_start self.now.layout chunk }
         requires index { index < payload_words self.now.layout chunk }
-        ensures seat { seat.new.seat.table_id ≡ seat.old.seat.table_id }
-        ensures me { Loads chunk index (spot self.now.layout chunk).payload_size seat.old.seat.me result seat.new.seat.me }
+        ensures { ServiceLeaves seat.old seat.new (λ me new. Loads chunk index (spot self.now.layout chunk).payload_size me result new) }
     {
         let spot = self.layout.spot(chunk);
         let step = Move::Load {
@@ -194,8 +179,7 @@ impl HostTable {
             seat.old.seat.me.0) writer).contents) (watched (watch_of seat.old.seat.me.0)) }
         requires last { (taken_of (service_of seat.old.seat.me.0) writer).count ≡ length (taken_of (service_of
             seat.old.seat.me.0) writer).contents + 1 }
-        ensures seat { seat.new.seat.table_id ≡ seat.old.seat.table_id }
-        ensures me { Serves (λ view. learns view writer (watched (watch_of seat.old.seat.me.0))) seat.old.seat.me seat.new.seat.me }
+        ensures { ServiceLeaves seat.old seat.new (λ me new. Serves (λ view. learns view writer (watched (watch_of me.0))) me new) }
     {
         let _ = chunk;
         let table = &self.table;
@@ -209,11 +193,9 @@ impl HostTable {
 
     /// Takes the slot of a chunk that the service reads.
     pub(crate) fn step_lift(&self, seat: &mut ServiceSeat, chunk: u32)
-        requires seat { seat.old.seat.table_id ≡ self.now.table.shared.table_id }
-        requires idle { IsServiceIdle seat.old.seat.me }
+        requires seat { CanServe self.now seat.old }
         requires reading { 0 < times chunk (service_of seat.old.seat.me.0).reading }
-        ensures seat { seat.new.seat.table_id ≡ seat.old.seat.table_id }
-        ensures me { Lifts self.now.layout chunk seat.old.seat.me seat.new.seat.me }
+        ensures { ServiceLeaves seat.old seat.new (Lifts self.now.layout chunk) }
     {
         let step = Move::Lift {
             layout: &self.layout,
@@ -231,8 +213,7 @@ impl HostTable {
         requires body { IsSome (body_in seat.old.seat.me.1) }
         requires size { IfSome (body_in seat.old.seat.me.1) (λ body. vec_len body.payload ≡ (spot self.now.layout chunk).payload_size) }
         requires out { HasLifted chunk (body_in seat.old.seat.me.1) seat.old.seat.me }
-        ensures seat { seat.new.seat.table_id ≡ seat.old.seat.table_id }
-        ensures me { Serves (λ view. lets_go view chunk) seat.old.seat.me seat.new.seat.me }
+        ensures { ServiceLeaves seat.old seat.new (Serves (λ view. lets_go view chunk)) }
     {
         let spot = self.layout.spot(chunk);
         let table = &self.table;
@@ -247,11 +228,9 @@ impl HostTable {
 
     /// Notes an event.
     pub(crate) fn step_event(&self, seat: &mut ServiceSeat, event: ServiceEvent)
-        requires seat { seat.old.seat.table_id ≡ self.now.table.shared.table_id }
-        requires idle { IsServiceIdle seat.old.seat.me }
+        requires seat { CanServe self.now seat.old }
         requires read { IsReadEvent event → stage_of seat.old.seat.me.0 ≡ Unmade }
-        ensures seat { seat.new.seat.table_id ≡ seat.old.seat.table_id }
-        ensures me { Serves (λ view. notes view (event_of event)) seat.old.seat.me seat.new.seat.me }
+        ensures { ServiceLeaves seat.old seat.new (Serves (λ view. notes view (event_of event))) }
     {
         let table = &self.table;
         make_load(
@@ -270,11 +249,8 @@ impl HostTable {
         payload: &[u8],
         patches: &[Patch],
     )
-        requires seat { seat.old.seat.table_id ≡ self.now.table.shared.table_id }
-        requires idle { IsServiceIdle seat.old.seat.me }
-        ensures seat { seat.new.seat.table_id ≡ seat.old.seat.table_id }
-        ensures me { Serves (λ view. notes_commit view (committed_of self.now.layout header payload.now patches.now))
-            seat.old.seat.me seat.new.seat.me }
+        requires seat { CanServe self.now seat.old }
+        ensures { ServiceLeaves seat.old seat.new (Serves (λ view. notes_commit view (committed_of self.now.layout header payload.now patches.now))) }
     {
         let step = Move::Commit {
             layout: &self.layout,

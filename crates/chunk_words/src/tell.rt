@@ -2,12 +2,11 @@
 //! request. Later looks show it, so a service
 //! that has looked at each chunk since knows that it took all of it. And the service marks worlds, by
 //! which the schedule of all steps came.
-ghost use Rattle.std.specs.Prelude.{◌≡◌, ◌<◌, []};
+ghost use Rattle.std.specs.Prelude.{◌≡◌, ◌<◌};
 ghost use Rattle.chunk_plain.specs.Letters.{last_flush};
 ghost use Rattle.chunk_words.specs.Knows.{desk_of, service_of, view_of, with_tale};
 ghost use Rattle.chunk_words.specs.Moves.{Recalls, Marks};
-ghost use Rattle.chunk_words.specs.Seats.{IsServiceIdle};
-ghost use Rattle.chunk_words.specs.Sits.{Sits, Attends};
+ghost use Rattle.chunk_words.specs.Sits.{Sits, Attends, CanServe, ServiceLeaves};
 ghost use Rattle.chunk_words.specs.Told.{ShowsAllTold, IsMarked};
 
 use crate::host::HostTable;
@@ -82,10 +81,8 @@ impl HostTable {
     }
 
     fn step_recall(&self, seat: &mut ServiceSeat)
-        requires seat { seat.old.seat.table_id ≡ self.now.table.shared.table_id }
-        requires idle { IsServiceIdle seat.old.seat.me }
-        ensures seat { seat.new.seat.table_id ≡ seat.old.seat.table_id }
-        ensures me { Recalls self.now.layout seat.old.seat.me seat.new.seat.me }
+        requires seat { CanServe self.now seat.old }
+        ensures { ServiceLeaves seat.old seat.new (Recalls self.now.layout) }
     {
         let step = Move::Recall {
             layout: &self.layout,
@@ -95,10 +92,8 @@ impl HostTable {
     }
 
     fn step_mark(&self, seat: &mut ServiceSeat)
-        requires seat { seat.old.seat.table_id ≡ self.now.table.shared.table_id }
-        requires idle { IsServiceIdle seat.old.seat.me }
-        ensures seat { seat.new.seat.table_id ≡ seat.old.seat.table_id }
-        ensures me { Marks self.now.layout seat.old.seat.me seat.new.seat.me }
+        requires seat { CanServe self.now seat.old }
+        ensures { ServiceLeaves seat.old seat.new (Marks self.now.layout) }
     {
         let step = Move::Mark {
             layout: &self.layout,

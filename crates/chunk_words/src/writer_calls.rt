@@ -1,18 +1,15 @@
 //! The calls of a writer's seat. None tries again, waits or takes memory.
 ghost use Rattle.std.specs.Prelude.{◌≡◌, ℕ, ◌+◌, ◌*◌, ◌<◌, ◌≤◌, true, false, Some, None, length, vec_len, IfSome, IfNone};
-ghost use Rattle.trace_base.specs.declared.limits.TheConstants.{MAX_FRAGMENTS};
-ghost use Rattle.page_geometry.specs.declared.chunk_header.TheConstants.{MAX_FLAGS};
-ghost use Rattle.chunk_plain.specs.declared.tokens.TheConstants.{POSITION_LIMIT};
-ghost use Rattle.chunk_plain.specs.Setup.{spot, producer_of, IsChunkOf, id_at};
-ghost use Rattle.chunk_plain.specs.Payload.{byte_of, byte_in, sealed_to, HasFragments};
-ghost use Rattle.chunk_plain.specs.Drafts.{MayFollow, draft_at, head_at, published, ends_by, IsHolding};
+ghost use Rattle.chunk_plain.specs.Setup.{spot, producer_of, IsChunkOf};
+ghost use Rattle.chunk_plain.specs.Payload.{byte_of, byte_in};
+ghost use Rattle.chunk_plain.specs.Drafts.{draft_at, published, ends_by, IsHolding};
 ghost use Rattle.chunk_plain.specs.Steps.{redrafts, with_head, completes, notes_call};
-ghost use Rattle.chunk_plain.specs.Words.{TriesClaim, WasHad, HasClaimed, IsBegun, BeginsChunk};
+ghost use Rattle.chunk_plain.specs.Words.{TriesClaim, WasHad, IsBegun, BeginsChunk};
 ghost use Rattle.chunk_plain.specs.Words.{KeepsSealed, IsPublished, StaysOutside, PublishesBytes, completed_content, call_of};
+ghost use Rattle.chunk_words.specs.Calls.{MayBegin, MayGetHead, MayPublishRange};
 ghost use Rattle.chunk_words.specs.Knows.{view_of};
 ghost use Rattle.chunk_words.specs.Moves.{Stores};
-ghost use Rattle.chunk_words.specs.Seats.{IsIdle};
-ghost use Rattle.chunk_words.specs.Sits.{Sits};
+ghost use Rattle.chunk_words.specs.Sits.{Sits, CanStep, Leaves};
 
 use crate::host::HostTable;
 use crate::seats::WriterSeat;
@@ -51,9 +48,7 @@ impl HostTable {
     /// count 0; and then its state is set.
     pub fn begin(&self, seat: &mut WriterSeat, claimed: Claimed, id: u32) -> Held
         requires seat { Sits self.now seat.old }
-        requires claimed { HasClaimed (view_of seat.old.seat.me.0) claimed.chunk }
-        requires id { id ≡ id_at self.now.layout seat.old.place (length (view_of seat.old.seat.me.0).begun) }
-        requires few_begun { length (view_of seat.old.seat.me.0).begun < POSITION_LIMIT }
+        requires may { MayBegin self.now.layout seat.old.place (view_of seat.old.seat.me.0) claimed.chunk id }
         ensures held { IsBegun self.now.layout claimed.chunk (length (view_of seat.old.seat.me.0).begun) result }
         ensures view { BeginsChunk self.now.layout claimed.chunk (view_of seat.old.seat.me.0) (view_of seat.new.seat.me.0) }
         ensures seat { Sits self.now seat.new }
@@ -75,14 +70,8 @@ impl HostTable {
     /// Stores the header of a held chunk.
     pub fn set_header(&self, seat: &mut WriterSeat, held: &mut Held, count: u16, flags: u8)
         requires seat { Sits self.now seat.old }
-        requires held { IsHolding (view_of seat.old.seat.me.0) held.old.chunk held.old.position }
-        requires count_fits { count ≤ MAX_FRAGMENTS }
-        requires flags_fit { flags ≤ MAX_FLAGS }
-        requires follows { MayFollow (head_at (view_of seat.old.seat.me.0) held.old.position) (record { count = count; flags = flags }) }
-        requires reads { HasFragments (published (view_of seat.old.seat.me.0) held.old.position)
-            (ends_by (view_of seat.old.seat.me.0) held.old.position count) }
-        requires inside { sealed_to (ends_by (view_of seat.old.seat.me.0) held.old.position count)
-            ≤ (spot self.now.layout held.old.chunk).payload_size }
+        requires may { MayGetHead self.now.layout (view_of seat.old.seat.me.0) held.old.chunk held.old.position
+            (record { count = count; flags = flags }) }
         ensures held { held.new ≡ held.old }
         ensures view { view_of seat.new.seat.me.0 ≡ redrafts (view_of seat.old.seat.me.0) held.old.chunk held.old.position
             (with_head (draft_at (view_of seat.old.seat.me.0) held.old.position) (record { count = count; flags = flags })
@@ -96,11 +85,7 @@ impl HostTable {
     /// Stores each payload word that has a byte of this range of the held payload.
     pub fn publish(&self, seat: &mut WriterSeat, held: &mut Held, from: u32, to: u32)
         requires seat { Sits self.now seat.old }
-        requires held { IsHolding (view_of seat.old.seat.me.0) held.old.chunk held.old.position }
-        requires size { vec_len held.old.body.payload ≡ (spot self.now.layout held.old.chunk).payload_size }
-        requires order { from ≤ to }
-        requires inside { to ≤ (spot self.now.layout held.old.chunk).payload_size }
-        requires kept { KeepsSealed (view_of seat.old.seat.me.0) held.old.position held.old.body.payload.items }
+        requires may { MayPublishRange self.now.layout (view_of seat.old.seat.me.0) held.old from to }
         ensures held { held.new ≡ held.old }
         ensures view { PublishesBytes held.old.chunk held.old.position from to held.old.body.payload.items
             (view_of seat.old.seat.me.0) (view_of seat.new.seat.me.0) }
@@ -131,17 +116,14 @@ impl HostTable {
         end: usize,
         copy: &[u8],
     )
-        requires seat { seat.old.seat.table_id ≡ self.now.table.shared.table_id }
-        requires idle { IsIdle seat.old.place seat.old.seat.me }
+        requires seat { CanStep self.now seat.old }
         requires chunk { chunk < length self.now.layout.spots }
         requires held { IsHolding (view_of seat.old.seat.me.0) chunk position }
         requires size { length copy.now ≡ (spot self.now.layout chunk).payload_size }
         requires order { first ≤ end }
         requires inside { 8 * end < length copy.now + 8 }
         requires kept { KeepsSealed (view_of seat.old.seat.me.0) position copy.now }
-        ensures seat { seat.new.seat.table_id ≡ seat.old.seat.table_id }
-        ensures place { seat.new.place ≡ seat.old.place }
-        ensures me { Stores chunk position first end copy.now seat.old.seat.me seat.new.seat.me }
+        ensures { Leaves seat.old seat.new (Stores chunk position first end copy.now) }
     {
         // Behind an atomic step all is read anew: so the loop reads no more than it has to.
         let start = self.first_index(chunk);

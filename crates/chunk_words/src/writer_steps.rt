@@ -1,17 +1,16 @@
 //! The steps of a writer's seat: each is one atomic step on the table.
-ghost use Rattle.std.specs.Prelude.{◌≡◌, ℕ, ◌+◌, ◌*◌, ◌<◌, ◌≤◌, Some, None, [], ◌∷◌, length, vec_len, IsSome, IfSome};
-ghost use Rattle.trace_base.specs.declared.limits.TheConstants.{MAX_FRAGMENTS};
-ghost use Rattle.page_geometry.specs.declared.chunk_header.TheConstants.{MAX_FLAGS};
+ghost use Rattle.std.specs.Prelude.{◌≡◌, ◌+◌, ◌<◌, Some, None, length, IsSome, IfSome};
 ghost use Rattle.chunk_plain.specs.declared.tokens.TheConstants.{POSITION_LIMIT};
 ghost use Rattle.chunk_plain.specs.Setup.{spot, id_at};
-ghost use Rattle.chunk_plain.specs.Payload.{sealed_to, HasFragments};
-ghost use Rattle.chunk_plain.specs.Drafts.{MayFollow, draft_at, head_at, published, ends_by, IsHolding};
+ghost use Rattle.chunk_plain.specs.Drafts.{draft_at, IsHolding};
 ghost use Rattle.chunk_plain.specs.Plain.{StandsWhole};
 ghost use Rattle.chunk_plain.specs.Words.{HasClaimed, call_of};
+ghost use Rattle.chunk_words.specs.Calls.{MayGetHead};
 ghost use Rattle.chunk_words.specs.Knows.{view_of};
 ghost use Rattle.chunk_words.specs.Moves.{Asks, Claims, Stamps, Begins, SetsHeader, Publishes, KeepsWord, Fetches, Completes, Notes, body_in};
 ghost use Rattle.chunk_words.specs.Places.{payload_start, payload_words};
-ghost use Rattle.chunk_words.specs.Seats.{IsIdle, HasOut};
+ghost use Rattle.chunk_words.specs.Seats.{HasOut};
+ghost use Rattle.chunk_words.specs.Sits.{CanStep, Leaves};
 
 use crate::host::HostTable;
 use crate::moves::Move;
@@ -25,12 +24,9 @@ impl HostTable {
     /// Reads the page word of a chunk. Where it has the chunk's claim bit, this is the claim, and it is
     /// lost; else the seat knows what it knew.
     pub(crate) fn step_ask(&self, seat: &mut WriterSeat, chunk: u32) -> u64
-        requires seat { seat.old.seat.table_id ≡ self.now.table.shared.table_id }
-        requires idle { IsIdle seat.old.place seat.old.seat.me }
+        requires seat { CanStep self.now seat.old }
         requires chunk { chunk < length self.now.layout.spots }
-        ensures seat { seat.new.seat.table_id ≡ seat.old.seat.table_id }
-        ensures place { seat.new.place ≡ seat.old.place }
-        ensures me { Asks self.now.layout chunk seat.old.seat.me result seat.new.seat.me }
+        ensures { Leaves seat.old seat.new (λ me new. Asks self.now.layout chunk me result new) }
     {
         let spot = self.layout.spot(chunk);
         let step = Move::Ask {
@@ -48,12 +44,9 @@ impl HostTable {
 
     /// Sets the claim bit of a chunk, and the layout of its page.
     pub(crate) fn step_claim(&self, seat: &mut WriterSeat, chunk: u32) -> u64
-        requires seat { seat.old.seat.table_id ≡ self.now.table.shared.table_id }
-        requires idle { IsIdle seat.old.place seat.old.seat.me }
+        requires seat { CanStep self.now seat.old }
         requires chunk { chunk < length self.now.layout.spots }
-        ensures seat { seat.new.seat.table_id ≡ seat.old.seat.table_id }
-        ensures place { seat.new.place ≡ seat.old.place }
-        ensures me { Claims self.now.layout chunk seat.old.seat.me result seat.new.seat.me }
+        ensures { Leaves seat.old seat.new (λ me new. Claims self.now.layout chunk me result new) }
     {
         let spot = self.layout.spot(chunk);
         let mask = claim_mask(spot.place, spot.layout);
@@ -68,17 +61,14 @@ impl HostTable {
 
     /// Stores the header of a claimed chunk, with count 0, and takes its slot.
     pub(crate) fn step_stamp(&self, seat: &mut WriterSeat, chunk: u32, id: u32)
-        requires seat { seat.old.seat.table_id ≡ self.now.table.shared.table_id }
-        requires idle { IsIdle seat.old.place seat.old.seat.me }
+        requires seat { CanStep self.now seat.old }
         requires place { seat.old.place < length self.now.layout.writers }
         requires chunk { chunk < length self.now.layout.spots }
         requires claimed { HasClaimed (view_of seat.old.seat.me.0) chunk }
         requires unstamped { (view_of seat.old.seat.me.0).stamped ≡ None }
         requires id { id ≡ id_at self.now.layout seat.old.place (length (view_of seat.old.seat.me.0).begun) }
         requires few_begun { length (view_of seat.old.seat.me.0).begun < POSITION_LIMIT }
-        ensures seat { seat.new.seat.table_id ≡ seat.old.seat.table_id }
-        ensures place { seat.new.place ≡ seat.old.place }
-        ensures me { Stamps chunk (spot self.now.layout chunk).payload_size seat.old.seat.me seat.new.seat.me }
+        ensures { Leaves seat.old seat.new (Stamps chunk (spot self.now.layout chunk).payload_size) }
     {
         let spot = self.layout.spot(chunk);
         let header = ChunkHeader {
@@ -111,9 +101,7 @@ impl HostTable {
           position = length (view_of
               seat.old.seat.me.0).begun;
         }) }
-        ensures seat { seat.new.seat.table_id ≡ seat.old.seat.table_id }
-        ensures place { seat.new.place ≡ seat.old.place }
-        ensures me { Begins chunk (spot self.now.layout chunk).payload_size seat.old.seat.me seat.new.seat.me }
+        ensures { Leaves seat.old seat.new (Begins chunk (spot self.now.layout chunk).payload_size) }
     {
         let spot = self.layout.spot(chunk);
         let step = Move::Begin {
@@ -139,20 +127,11 @@ impl HostTable {
         count: u16,
         flags: u8,
     )
-        requires seat { seat.old.seat.table_id ≡ self.now.table.shared.table_id }
-        requires idle { IsIdle seat.old.place seat.old.seat.me }
+        requires seat { CanStep self.now seat.old }
         requires place { seat.old.place < length self.now.layout.writers }
         requires chunk { chunk < length self.now.layout.spots }
-        requires held { IsHolding (view_of seat.old.seat.me.0) chunk position }
-        requires count_fits { count ≤ MAX_FRAGMENTS }
-        requires flags_fit { flags ≤ MAX_FLAGS }
-        requires follows { MayFollow (head_at (view_of seat.old.seat.me.0) position) (record { count = count; flags = flags }) }
-        requires reads { HasFragments (published (view_of seat.old.seat.me.0) position)
-            (ends_by (view_of seat.old.seat.me.0) position count) }
-        requires inside { sealed_to (ends_by (view_of seat.old.seat.me.0) position count) ≤ (spot self.now.layout chunk).payload_size }
-        ensures seat { seat.new.seat.table_id ≡ seat.old.seat.table_id }
-        ensures place { seat.new.place ≡ seat.old.place }
-        ensures me { SetsHeader chunk position (record { count = count; flags = flags }) seat.old.seat.me seat.new.seat.me }
+        requires head { MayGetHead self.now.layout (view_of seat.old.seat.me.0) chunk position (record { count = count; flags = flags }) }
+        ensures { Leaves seat.old seat.new (SetsHeader chunk position (record { count = count; flags = flags })) }
     {
         let header = ChunkHeader {
             chunk_id: self.layout.id_at(seat.place, position),
@@ -186,16 +165,13 @@ impl HostTable {
         index: usize,
         word: u64,
     )
-        requires seat { seat.old.seat.table_id ≡ self.now.table.shared.table_id }
-        requires idle { IsIdle seat.old.place seat.old.seat.me }
+        requires seat { CanStep self.now seat.old }
         requires chunk { chunk < length self.now.layout.spots }
         requires start { start ≡ payload_start self.now.layout chunk }
         requires held { IsHolding (view_of seat.old.seat.me.0) chunk position }
         requires index { index < payload_words self.now.layout chunk }
         requires kept { KeepsWord (draft_at (view_of seat.old.seat.me.0) position) index word }
-        ensures seat { seat.new.seat.table_id ≡ seat.old.seat.table_id }
-        ensures place { seat.new.place ≡ seat.old.place }
-        ensures me { Publishes chunk position index word seat.old.seat.me seat.new.seat.me }
+        ensures { Leaves seat.old seat.new (Publishes chunk position index word) }
     {
         let step = Move::Publish {
             chunk,
@@ -215,13 +191,10 @@ impl HostTable {
 
     /// Takes the slot of a held chunk.
     pub(crate) fn step_fetch(&self, seat: &mut WriterSeat, chunk: u32, position: u32)
-        requires seat { seat.old.seat.table_id ≡ self.now.table.shared.table_id }
-        requires idle { IsIdle seat.old.place seat.old.seat.me }
+        requires seat { CanStep self.now seat.old }
         requires chunk { chunk < length self.now.layout.spots }
         requires held { IsHolding (view_of seat.old.seat.me.0) chunk position }
-        ensures seat { seat.new.seat.table_id ≡ seat.old.seat.table_id }
-        ensures place { seat.new.place ≡ seat.old.place }
-        ensures me { Fetches chunk seat.old.seat.me seat.new.seat.me }
+        ensures { Leaves seat.old seat.new (Fetches chunk) }
     {
         let _ = position;
         let table = &self.table;
@@ -242,10 +215,7 @@ impl HostTable {
         requires out { HasOut seat.old.place chunk (body_in seat.old.seat.me.1) seat.old.seat.me }
         requires whole { IfSome (body_in seat.old.seat.me.1) (λ body. StandsWhole (spot self.now.layout chunk).payload_size (view_of
             seat.old.seat.me.0) position body) }
-        ensures seat { seat.new.seat.table_id ≡ seat.old.seat.table_id }
-        ensures place { seat.new.place ≡ seat.old.place }
-        ensures me { IfSome (body_in seat.old.seat.me.1) (λ body. Completes self.now.layout chunk position body
-            seat.old.seat.me seat.new.seat.me) }
+        ensures { Leaves seat.old seat.new (λ me new. IfSome (body_in me.1) (λ body. Completes self.now.layout chunk position body me new)) }
     {
         let spot = self.layout.spot(chunk);
         let table = &self.table;
@@ -264,11 +234,8 @@ impl HostTable {
 
     /// Notes a call.
     pub(crate) fn step_call(&self, seat: &mut WriterSeat, call: WriterCall<'_>)
-        requires seat { seat.old.seat.table_id ≡ self.now.table.shared.table_id }
-        requires idle { IsIdle seat.old.place seat.old.seat.me }
-        ensures seat { seat.new.seat.table_id ≡ seat.old.seat.table_id }
-        ensures place { seat.new.place ≡ seat.old.place }
-        ensures me { Notes (call_of call.entry) seat.old.seat.me seat.new.seat.me }
+        requires seat { CanStep self.now seat.old }
+        ensures { Leaves seat.old seat.new (Notes (call_of call.entry)) }
     {
         let table = &self.table;
         make_load(

@@ -19,18 +19,18 @@ load-requires-clause-chunk c = c.requires.page.inside c.args.chunk c.requires.ch
 pub load-requires-clause-size : goal.load-requires-clause-size
 load-requires-clause-size c = c.requires.size ∙ sym (c.requires.page.size c.args.chunk c.requires.chunk)
 
-pub take-requires-clause-chunk : goal.take-requires-clause-chunk
-take-requires-clause-chunk c = c.requires.page.inside c.args.chunk c.requires.chunk
-
-pub take-requires-clause-writers : goal.take-requires-clause-writers
-take-requires-clause-writers c = let two = c.requires.page.writers in omega (arith, two)
-
-pub take-requires-clause-id : goal.take-requires-clause-id
-take-requires-clause-id c =
+pub take-requires-clause-next : goal.take-requires-clause-next
+take-requires-clause-next c =
     let looks = c.look.ensures.view in
     let one = looked c.args.seat.now c.look.new.seat c.args.chunk _ _ c.args.next looks.found c.requires.next looks.view in
     let count = (loaded c.look.new.seat c.load.new.seat c.args.next one c.load.ensures.view).count_is in
-    c.id_of.ensures ∙ ap (id_of 4294967000) (sym count) ∙ ap (λ (f : ℕ). id_of f (taken_of (service_of c.load.new.seat.seat.me.0) 0).count) (sym (c.requires.page.froms 0 (omega arith)))
+    record {
+      inside = c.requires.page.inside c.args.chunk c.requires.chunk;
+      least = omega arith;
+      most = let two = c.requires.page.writers in omega (arith, two);
+      id_is = c.id_of.ensures ∙ ap (id_of 4294967000) (sym count)
+          ∙ ap (λ (f : ℕ). id_of f (taken_of (service_of c.load.new.seat.seat.me.0) 0).count) (sym (c.requires.page.froms 0 (omega arith)));
+    }
 
 pub release-requires-clause-reading : goal.release-requires-clause-reading
 release-requires-clause-reading c =

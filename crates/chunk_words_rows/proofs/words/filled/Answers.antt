@@ -1,4 +1,5 @@
-use Rattle.std.proofs.Common.{◌≡◌, ℕ, ◌<◌, ◌∙◌, length, subst, sym, refl, ap, arith}
+use Rattle.std.proofs.Common.{◌≡◌, ℕ, ◌<◌, ◌∙◌, length, subst, sym, refl, ap, arith, rules}
+use Rattle.std.proofs.lemmas.Grind.{common_steps}
 use Rattle.chunk_plain.specs.declared.tokens.Held.{Held as HeldToken}
 use Rattle.chunk_plain.specs.Payload.{byte_in}
 use Rattle.chunk_plain.specs.Setup.{IsChunkOf, producer_of, from_of}
@@ -15,26 +16,31 @@ claim_try-requires-clause-chunk c =
     let setup = setup_in c.args.host.now in
     subst (λ p. IsChunkOf setup (producer_of setup p) 0) (sym c.requires.writer.0) (c.requires.page.chunks 0 0 (omega arith) (omega arith))
 
-pub begin-held-requires-clause-claimed : goal.begin-held-requires-clause-claimed
-begin-held-requires-clause-claimed c =
-    let won = c.in_ok-claimed.ensures.won in
-    subst (λ k. HasClaimed (known_by c.claim_try.new.seat) k) (sym c.in_ok-claimed.ensures.chunk)
-    (claims_has (known_by c.args.writer.now) (known_by c.claim_try.new.seat) 0 won.found won.view)
-
-pub begin-held-requires-clause-id : goal.begin-held-requires-clause-id
-begin-held-requires-clause-id c =
+pub begin-held-requires-clause-may : goal.begin-held-requires-clause-may
+begin-held-requires-clause-may c =
     let won = c.in_ok-claimed.ensures.won in
     let none = ap (λ (v : WriterView). length v.begun) won.view ∙ ap (λ (v : WriterView). length v.begun) c.requires.writer.2 in
     let count : ℕ = length (known_by c.claim_try.new.seat).begun in
     let place_is = c.in_ok-claimed.ensures.place ∙ c.requires.writer.0 in
     let from_is = ap (from_of (setup_in c.args.host.now)) place_is ∙ c.requires.page.froms 0 (omega arith) in
-    c.id_of.ensures ∙ ap (id_of 4294967000) (sym none) ∙ ap (λ (f : ℕ). id_of f count) (sym from_is)
+    record {
+      claimed = subst (λ k. HasClaimed (known_by c.claim_try.new.seat) k) (sym c.in_ok-claimed.ensures.chunk)
+          (claims_has (known_by c.args.writer.now) (known_by c.claim_try.new.seat) 0 won.found won.view);
+      id_is = c.id_of.ensures ∙ ap (id_of 4294967000) (sym none) ∙ ap (λ (f : ℕ). id_of f count) (sym from_is);
+      few_begun = omega (arith, none);
+    }
 
-pub publish-requires-clause-held : goal.publish-requires-clause-held
-publish-requires-clause-held c =
+pub publish-requires-clause-may : goal.publish-requires-clause-may
+publish-requires-clause-may c =
     let held = c.begin-held.result in
-    begins_holds (setup_in c.args.host.now) (known_by c.claim_try.new.seat) (known_by c.begin-held.new.seat) c.in_ok-claimed.claimed.chunk (length (known_by c.claim_try.new.seat).begun) held.chunk held.position
-    c.begin-held.ensures.view refl c.begin-held.ensures.held.chunk_is c.begin-held.ensures.held.position_is
+    record {
+      held = begins_holds (setup_in c.args.host.now) (known_by c.claim_try.new.seat) (known_by c.begin-held.new.seat) c.in_ok-claimed.claimed.chunk (length (known_by c.claim_try.new.seat).begun) held.chunk held.position
+          c.begin-held.ensures.view refl c.begin-held.ensures.held.chunk_is c.begin-held.ensures.held.position_is;
+      size = first_of (search rules, grind (arith, common_steps));
+      order = first_of (search rules, grind (arith, common_steps));
+      inside = first_of (search rules, grind (arith, common_steps));
+      kept = first_of (search rules, grind (arith, common_steps));
+    }
 
 pub complete-requires-clause-held : goal.complete-requires-clause-held
 complete-requires-clause-held c =

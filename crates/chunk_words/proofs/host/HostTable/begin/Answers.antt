@@ -13,8 +13,8 @@ returns-clause-held c =
     let self = c.args.self.now in let seat = c.args.seat.now in let stamps_it = c.step_stamp.ensures.me in let body = c.body_out-body.result in
     record {
       chunk_is = refl;
-      position_is = begun_at self.layout seat.place (length (view_of seat.seat.me.0).begun) c.args.id c.position_at-position.result c.requires.id
-          (let few = c.requires.few_begun in omega (arith, few)) c.position_at-position.ensures;
+      position_is = begun_at self.layout seat.place (length (view_of seat.seat.me.0).begun) c.args.id c.position_at-position.result c.requires.may.id_is
+          (let few = c.requires.may.few_begun in omega (arith, few)) c.position_at-position.ensures;
       whole =
           let there : Some stamps_it.body ≡ Some body = sym (ap (λ (m : Mine). body_in m.1) stamps_it.new_is) ∙ c.body_out-body.ensures.body in
           let same : stamps_it.body ≡ body = cc in
@@ -30,4 +30,4 @@ returns-clause-seat c =
     sits_now self seat c.step_begin.new.seat (begins (stamps view chunk) chunk words) c.requires.seat
     (c.step_begin.ensures.seat ∙ (c.body_out-body.ensures.seat ∙ c.step_stamp.ensures.seat)) (c.step_begin.ensures.place ∙ c.step_stamp.ensures.place)
     (last.new_is ∙ ap (λ (k : Knows). let m : Mine = (by_writer 0 (λ v. begins v chunk words) k, []) in m) known)
-    (begins_rest self.layout seat.place view c.requires.seat.rests.rests chunk words c.requires.claimed)
+    (begins_rest self.layout seat.place view c.requires.seat.rests.rests chunk words c.requires.may.claimed)

@@ -5,17 +5,16 @@ use Rattle.chunk_words.proofs.Loading.{loaded_found, loaded_read}
 use Rattle.chunk_words.proofs.Rests.{attends_now}
 use Rattle.chunk_words.proofs.host.HostTable.load.Goals as goal
 
-pub returns-clause-found : goal.returns-clause-found
-returns-clause-found c =
+pub returns-clause-loads : goal.returns-clause-loads
+returns-clause-loads c =
     let self = c.args.self.now in let bytes = c.load_words.new.into in
     let some : 0 < length bytes = let least = self.laid.least c.args.chunk c.requires.chunk in let size = c.requires.size in let same = c.load_words.ensures.size in omega arith in
-    loaded_found c.args.chunk (length bytes) bytes c.args.seat.now.seat.me c.load_words.new.seat.seat.me c.load_words.ensures.me refl some
-
-pub returns-clause-read : goal.returns-clause-read
-returns-clause-read c =
-    let self = c.args.self.now in let bytes = c.load_words.new.into in
-    let some : 0 < length bytes = let least = self.laid.least c.args.chunk c.requires.chunk in let size = c.requires.size in let same = c.load_words.ensures.size in omega arith in
-    loaded_read self.layout c.args.chunk (length bytes) bytes c.args.seat.now.seat.me c.load_words.new.seat.seat.me c.load_words.ensures.me refl some c.requires.seat.waits.serving
+    record {
+      size = c.load_words.ensures.size;
+      found = loaded_found c.args.chunk (length bytes) bytes c.args.seat.now.seat.me c.load_words.new.seat.seat.me c.load_words.ensures.me refl some;
+      read = loaded_read self.layout c.args.chunk (length bytes) bytes c.args.seat.now.seat.me c.load_words.new.seat.seat.me c.load_words.ensures.me refl some
+          c.requires.seat.waits.serving;
+    }
 
 pub returns-clause-seat : goal.returns-clause-seat
 returns-clause-seat c =

@@ -1,11 +1,12 @@
-use Rattle.std.proofs.Common.{◌≡◌, ◌∙◌, List, length, replicate, refl, ap, sym, subst, arith}
+use Rattle.std.proofs.Common.{◌≡◌, ◌∙◌, List, length, replicate, refl, ap, sym, subst, arith, rules}
+use Rattle.std.proofs.lemmas.Grind.{common_steps}
 use Rattle.chunk_plain.specs.declared.setup.Spot.{Spot}
 use Rattle.chunk_plain.specs.Setup.{Setup, IsLaid}
 use Rattle.chunk_plain.specs.Plain.{first_world}
 use Rattle.chunk_plain.specs.Words.{IsServing}
 use Rattle.chunk_plain.proofs.LayingLemmas.{setup_laid}
 use Rattle.chunk_plain.proofs.MadeLemmas.{first_owned, first_serves}
-use Rattle.chunk_words.specs.Knows.{made_of, joined_of, service_of}
+use Rattle.chunk_words.specs.Knows.{made_of, joined_of, stage_of, service_of}
 use Rattle.chunk_words.specs.Made.{HasFreeBodies}
 use Rattle.chunk_words.specs.Moves.{Mine, IsSeen}
 use Rattle.chunk_words.specs.Places.{word_total}
@@ -43,18 +44,24 @@ new-requires c =
     ∙ (c.in_ok-words.ensures.items_if_clones_equal (λ y h. h) ∙ ap (λ n. replicate n 0) (let many = ap (λ (s : Setup). length s.writers) c.in_ok-layout.ensures in omega (arith, many, c.in_ok-starts.ensures.requests))) in
     starts_shared layout c.deref.result.now bodies laid zeros free
 
-pub returns-clause-service : goal.returns-clause-service
-returns-clause-service c =
+pub returns : goal.returns
+returns c =
     let layout = c.in_ok-layout.layout in let service = c.make_seats.new.service in
     let me_is = c.in_ok-seats.ensures.me in
     let view_is : service_of service.seat.me.0 ≡ (first_world layout).service = ap (λ (m : Mine). service_of m.0) me_is in
     record {
-      joined = c.in_ok-seats.ensures.seat ∙ c.in-Ok.ensures.ok.2;
-      waits = record {
-        idle = subst IsServiceIdle (sym me_is) refl;
-        serving = subst (IsServing layout) (sym view_is) (first_serves layout);
-        seen = subst IsSeen (sym view_is) ∣ (first_world layout, first_owned layout, refl) ∣₁;
-        all_made = ap (λ (m : Mine). made_of m.0) me_is ∙ (let many = ap (λ (s : Setup). length s.writers) c.in_ok-layout.ensures in let few = c.requires.writers in omega (arith, many, few));
-        none_joined = ap (λ (m : Mine). joined_of m.0) me_is;
+      setup = c.in_ok-layout.ensures;
+      seats = first_of (search rules, grind (arith, common_steps));
+      service = record {
+        joined = c.in_ok-seats.ensures.seat ∙ c.in-Ok.ensures.ok.2;
+        waits = record {
+          idle = subst IsServiceIdle (sym me_is) refl;
+          serving = subst (IsServing layout) (sym view_is) (first_serves layout);
+          seen = subst IsSeen (sym view_is) ∣ (first_world layout, first_owned layout, refl) ∣₁;
+          all_made = ap (λ (m : Mine). made_of m.0) me_is ∙ (let many = ap (λ (s : Setup). length s.writers) c.in_ok-layout.ensures in let few = c.requires.writers in omega (arith, many, few));
+          none_joined = ap (λ (m : Mine). joined_of m.0) me_is;
+        };
       };
+      service_view = view_is;
+      no_pass = ap (λ (m : Mine). stage_of m.0) me_is;
     }

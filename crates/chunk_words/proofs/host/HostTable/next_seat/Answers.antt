@@ -6,8 +6,8 @@ use Rattle.chunk_words.proofs.host.HostTable.next_seat.Goals as goal
 pub split_seat-requires : goal.split_seat-requires
 split_seat-requires c =
     let self = c.args.self.now in let seat = c.args.service.now.seat in let k = seat.me.0 in (
-      c.requires.seat,
+      c.requires.seat.joined,
       (let words = self.word_count in omega arith),
-      rw (self.key, c.requires.idle)
+      rw (self.key, c.requires.seat.idle)
           (splits_shared self.layout seat.id (made_of k) (desk_of k) (watch_of k) (service_of k) c.requires.inside),
     )

@@ -16,8 +16,8 @@ make_store-requires-clause-allowed c =
           ∙ ap (λ (i : _). let h : ChunkHeader = record { chunk_id = i; writer_id = seat.place + 1; count = c.args.count; flags = c.args.flags } in packed h) c.id_at.ensures;
       position_fits = let fits = c.ranges.position.fits in omega arith;
       writer_fits = let few = self.few_writers in let inside = c.requires.place in omega arith;
-      count_fits = let fits = c.requires.count_fits in omega arith;
-      flags_fit = let fits = c.requires.flags_fit in omega arith;
+      count_fits = let fits = c.requires.head.count_fits in omega arith;
+      flags_fit = let fits = c.requires.head.flags_fit in omega arith;
     } in
-    rw (self.key, c.header_index.ensures.here, c.requires.idle)
-    (heads_allowed self.layout _ seat.seat.id seat.place c.args.chunk c.args.position c.pack.result head (view_of seat.seat.me.0) c.requires.held is c.requires.follows c.requires.reads c.requires.inside)
+    rw (self.key, c.header_index.ensures.here, c.requires.seat.idle)
+    (heads_allowed self.layout _ seat.seat.id seat.place c.args.chunk c.args.position c.pack.result head (view_of seat.seat.me.0) c.requires.head.held is c.requires.head.follows c.requires.head.reads c.requires.head.inside)

@@ -6,5 +6,5 @@ use Rattle.chunk_words.proofs.host.HostTable.step_note_request.Goals as goal
 pub make_store-requires-clause-allowed : goal.make_store-requires-clause-allowed
 make_store-requires-clause-allowed c =
     let self = c.args.self.now in let seat = c.args.seat.now.seat in let k = seat.me.0 in
-    rw (self.key, self.request_is, c.requires.idle)
+    rw (self.key, self.request_is, c.requires.seat.idle)
     (request_noted self.layout _ seat.id (made_of k) (desk_of k) (watch_of k) (service_of k) (staged (stage_of k)) c.requires.here c.args.flush c.requires.next (omega arith))

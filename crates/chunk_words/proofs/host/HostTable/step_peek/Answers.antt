@@ -5,5 +5,5 @@ use Rattle.chunk_words.proofs.host.HostTable.step_peek.Goals as goal
 pub make_load-requires-clause-allowed : goal.make_load-requires-clause-allowed
 make_load-requires-clause-allowed c =
     let self = c.args.self.now in let seat = c.args.seat.now.seat in let k = seat.me.0 in
-    rw (self.key, c.page_index.ensures.here, c.spot-spot.ensures.spot, c.requires.idle)
+    rw (self.key, c.page_index.ensures.here, c.spot-spot.ensures.spot, c.requires.seat.idle)
     (peeks_allowed self.layout _ seat.id (made_of k) (desk_of k) c.args.chunk (watch_of k) (service_of k) c.requires.chunk)

@@ -18,5 +18,5 @@ make_store-requires-clause-allowed c =
       count_fits = omega arith;
       flags_fit = omega arith;
     } in
-    rw (self.key, c.spot-spot.ensures.spot, c.header_index.ensures.here, c.requires.idle)
+    rw (self.key, c.spot-spot.ensures.spot, c.header_index.ensures.here, c.requires.seat.idle)
     (stamps_allowed self.layout _ seat.seat.id seat.place c.args.chunk c.pack.result (view_of seat.seat.me.0) c.requires.chunk c.requires.claimed c.requires.unstamped c.requires.few_begun is)

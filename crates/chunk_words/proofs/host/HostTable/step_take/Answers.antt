@@ -16,11 +16,11 @@ use Rattle.chunk_words.proofs.host.HostTable.step_take.Goals as goal
 pub make_and-requires-clause-allowed : goal.make_and-requires-clause-allowed
 make_and-requires-clause-allowed c =
     let self = c.args.self.now in let seat = c.args.seat.now.seat in let k = seat.me.0 in let mask = c.take_mask.result in let header = c.args.header in
-    let fields = c.requires.fields in
-    let fact = takes_allowed self.layout self.table.shared.table_id.slots seat.id (made_of k) (desk_of k) c.args.writer c.args.chunk c.args.word (packed header) mask (service_of k) c.requires.chunk c.requires.writer c.requires.complete
-    (ap (λ (h : ChunkHeader). h.writer_id) fields ∙ c.requires.writer_is) (ap (λ (h : ChunkHeader). h.chunk_id) fields ∙ c.requires.next)
+    let fields = c.requires.next.fields in
+    let fact = takes_allowed self.layout self.table.shared.table_id.slots seat.id (made_of k) (desk_of k) c.args.writer c.args.chunk c.args.word (packed header) mask (service_of k) c.requires.chunk c.requires.writer c.requires.next.complete
+    (ap (λ (h : ChunkHeader). h.writer_id) fields ∙ c.requires.next.writer_is) (ap (λ (h : ChunkHeader). h.chunk_id) fields ∙ c.requires.next.next)
     (subst (λ (s : Spot). (found : _) → found < 2 ^ 64 → HasState found s.place Complete → SetsState found (bit_and found mask) s.place BeingRead) c.spot-spot.ensures.spot c.take_mask.ensures.step)
     (subst (λ (s : Spot). (found : _) → KeepsOthers found (bit_and found mask) s.place) c.spot-spot.ensures.spot c.take_mask.ensures.others) in
-    rw (self.key, c.page_index.ensures.here, c.spot-spot.ensures.spot, c.requires.idle, c.requires.watch)
+    rw (self.key, c.page_index.ensures.here, c.spot-spot.ensures.spot, c.requires.seat.idle, c.requires.next.watch)
     (subst (λ (h : ChunkHeader). Allows (IsShared self.layout) self.table.shared.table_id.slots seat.id (Service 0 (made_of k) (desk_of k) (Known c.args.chunk c.args.word (packed header)) (service_of k), []) (front_place (spot self.layout c.args.chunk).page)
     (λ found. bit_and found mask) (λ _. Takes self.layout c.args.writer c.args.chunk (spot self.layout c.args.chunk).payload_size c.args.word h (Service 0 (made_of k) (desk_of k) (Known c.args.chunk c.args.word (packed header)) (service_of k), []))) fields fact)

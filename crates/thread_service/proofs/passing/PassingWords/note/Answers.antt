@@ -19,7 +19,7 @@ returns-then-is_read-clause-step g c =
       setup_stays = refl;
       seat_stays = passes_read g.N.Start.table g.N.Start.passed g.N.Start.view g.N.Start.desk c.args.self.now.table.now c.args.self.now.pass
           c.note_read.new.pass c.args.seat.now c.note_read.new.seat (event_of c.args.event)
-          (event_read c.args.event (c.is_read.ensures.yes c.if-is_read.true)) c.requires.seat did.pass did.seat did.desk did.goes_on did.view did.known;
+          (event_read c.args.event (c.is_read.ensures.yes c.if-is_read.true)) c.requires.seat did.joins.passes did.seat did.joins.desk did.joins.goes_on did.view did.known;
       writers_stay = λ other there. (there, refl);
       reads_stay = λ takes. takes;
       letters_stay = ap (λ (v : ServiceView). v.letters) did.view;

@@ -1,6 +1,7 @@
 use Rattle.std.proofs.Common.{◌-◌, ◌∙◌, [], ◌∷◌, ◌++◌, sym, ap, subst}
 use Rattle.chunk_plain.specs.Views.{Heard, ServiceView, asked_in}
 use Rattle.chunk_words.proofs.MailSteps.{asked_heard}
+use Rattle.chunk_words.specs.Moves.{IsLastAnswer}
 use Rattle.chunk_words.specs.Sits.{setup_in}
 use Rattle.service_core.specs.Agreement.{ServiceAgrees}
 use Rattle.thread_service.specs.Serving.{view_in}
@@ -20,3 +21,7 @@ returns-clause-serves c =
           (agrees_letters old (old.letters ++ answer ∷ []) setup core c.answered.new.seat c.requires.serves.agrees);
       asked = c.requires.serves.asked ∙ sym (ap (λ (v : ServiceView). asked_in v.letters) view ∙ asked_heard old.letters _ _ _);
     }
+
+pub returns-clause-last : goal.returns-clause-last
+returns-clause-last c =
+    subst (λ (v : ServiceView). IsLastAnswer v (c.args.writer - 1) c.answered.result.0 c.answered.result.1) (sym c.answered.ensures.view) c.answered.ensures.answer.last

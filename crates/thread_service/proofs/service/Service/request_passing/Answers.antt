@@ -54,5 +54,5 @@ pub returns-clause-passes : goal.returns-clause-passes
 returns-clause-passes c =
     let old = known_by_service c.request_flush.new.self.seat in
     passes_request (setup_in c.args.table.now) (core_of c.args.self.now) (known_by_pass c.args.pass.now) (view_in c.args.self.now) (known_by_pass c.note_request.new.pass)
-    c.requires.known c.compare.ensures.goes_on
+    c.requires.known c.compare.ensures.joins.goes_on
     (ap history_of (c.note_request.ensures.known ∙ c.note_request.ensures.view) ∙ history_letters old (old.letters ++ Asked ∷ []) (agrees_then c).known ∙ ap history_of (view_then c))
