@@ -14,10 +14,11 @@ use Rattle.page_geometry.specs.declared.chunk_header.ChunkHeader.{ChunkHeader}
 use Rattle.page_geometry.specs.Header.{packed}
 use Rattle.chunk_plain.specs.Setup.{Setup}
 use Rattle.chunk_plain.specs.Views.{Content, Look, Taken, Noted, Arrive, ServiceView, taken_of}
-use Rattle.chunk_plain.specs.Steps.{taken_counts}
+use Rattle.chunk_plain.specs.World.{World}
+use Rattle.chunk_plain.specs.Steps.{taken_counts, serviced}
 use Rattle.chunk_plain.specs.Words.{LooksAt}
 use Rattle.chunk_plain.specs.Meaning.{Meaning, IsServiceStep}
-use Rattle.chunk_plain.proofs.SeatSteps.{services_follow}
+use Rattle.chunk_plain.proofs.SeatSteps.{serves_on, services_follow}
 use Rattle.chunk_plain.specs.Histories.{content_at, once_read, arrival_of, patches_of, happened, history_of}
 use Rattle.trace_buffer.specs.declared.answers.BufferSpec.{BufferSpec}
 use Rattle.world_model.specs.FirstBuffers as first
@@ -27,6 +28,7 @@ use Rattle.service_core.specs.Routing.{arrivals_of, is_closed_at}
 use Rattle.service_core.specs.Order.{Stage, LeadTo, beginning}
 use Rattle.world_model.specs.Accounts.{NoneCommitted}
 use Rattle.service_core.specs.Agreement.{IsRouted, AreKnownNotes, buffer_of, ServiceAgrees, KeepsFields, KeepsRest, KeepsTaking, is_closed, first_of, spec_value}
+use Rattle.service_core.specs.Calls.{ServesAt, ServesWriter, ServesOn, NotesOn}
 use Rattle.service_core.specs.Looking.{looked}
 use Rattle.service_core.specs.Taking.{patched_where, takings, taken_more, took}
 use Rattle.service_core.proofs.HistoryLemmas.{Grows, all_known_grow, known_append, history_stays}
@@ -205,21 +207,61 @@ keeps_both setup old mid new one two = record {
   closed = λ place inside. two.closed place inside ∙ one.closed place inside;
 }
 
--- Calls one after another: what each leaves, all do.
-pub record GoesOn {S T W : Type 0} (means : Meaning T W S) (old_table : T) (old : ServiceCore S) (new_table : T) (new : ServiceCore S) : Type 0 where
-  pub agrees : ServiceAgrees (means.setup old_table) (means.service_view new_table new.seat) new
-  pub keeps : KeepsRest (means.setup old_table) old new
-  pub step : IsServiceStep means old_table old.seat new_table new.seat
-
-pub goes_on : {S T W : Type 0} → (means : Meaning T W S) (first middle last : T) (old mid new : ServiceCore S)
-    → KeepsRest (means.setup first) old mid → IsServiceStep means first old.seat middle mid.seat
-    → ServiceAgrees (means.setup middle) (means.service_view last new.seat) new → KeepsRest (means.setup middle) mid new → IsServiceStep means middle mid.seat last new.seat
-    → GoesOn means first old last new
-goes_on means first middle last old mid new kept step agrees keeps next = record {
-  agrees = subst (λ (s : Setup). ServiceAgrees s (means.service_view last new.seat) new) step.setup_stays agrees;
-  keeps = keeps_both (means.setup first) old mid new kept (subst (λ (s : Setup). KeepsRest s mid new) step.setup_stays keeps);
-  step = services_follow means first old.seat middle mid.seat last new.seat step next;
+-- before any call the service serves on
+pub goes_begin : {S T W : Type 0} {means : Meaning T W S} {table : T} {core : ServiceCore S} → ServesAt means table core → ServesOn means table core table core
+goes_begin {means = means} {table = table} {core = core} at = record {
+  agrees = at.agrees;
+  keeps = keeps_same (means.setup table) core;
+  step = serves_on means table core.seat at.serves;
 }
+
+-- calls one after another: what each leaves, all do
+pub goes_on : {S T W : Type 0} {means : Meaning T W S} {first middle last : T} {old mid new : ServiceCore S}
+    → ServesOn means first old middle mid → ServesOn means middle mid last new → ServesOn means first old last new
+goes_on {means = means} {first = first} {middle = middle} {last = last} {old = old} {mid = mid} {new = new} one two = record {
+  agrees = subst (λ (s : Setup). ServiceAgrees s (means.service_view last new.seat) new) one.step.setup_stays two.agrees;
+  keeps = keeps_both (means.setup first) old mid new one.keeps (subst (λ (s : Setup). KeepsRest s mid new) one.step.setup_stays two.keeps);
+  step = services_follow means first old.seat middle mid.seat last new.seat one.step two.step;
+}
+
+-- and where a call has gone on, the next one may begin
+pub goes_at : {S T W : Type 0} {means : Meaning T W S} {first middle : T} {old mid : ServiceCore S} → ServesOn means first old middle mid → ServesAt means middle mid
+goes_at {means = means} {middle = middle} {mid = mid} on = record {
+  serves = on.step.seat_stays;
+  agrees = subst (λ (s : Setup). ServiceAgrees s (means.service_view middle mid.seat) mid) (sym on.step.setup_stays) on.agrees;
+}
+
+-- behind a look it serves on
+pub looks_on : {S T W : Type 0} (means : Meaning T W S) (table : T) (core : ServiceCore S) (left : T) (seat : S) (chunk word : ℕ) (header : ChunkHeader)
+    → ServesAt means table core → LooksAt (means.setup table) chunk word header (means.service_view table core.seat) (means.service_view left seat)
+    → IsServiceStep means table core.seat left seat → ServesOn means table core left (record core { seat = seat })
+looks_on means table core left seat chunk word header at looks step = record {
+  agrees = agrees_seen (means.setup table) (means.service_view table core.seat) (means.service_view left seat) core seat chunk word header looks at.agrees;
+  keeps = record { fields = record { layout = refl; specs = refl; writers = refl; session = refl }; closed = λ place inside. refl };
+  step = step;
+}
+
+-- the same where nothing is taken
+pub notes_begin : {S T W : Type 0} {means : Meaning T W S} {table : T} {core : ServiceCore S} → ServesAt means table core
+    → ((world : World) → means.told table ≡ Some world → means.service_view table core.seat ≡ world.service) → NotesOn means table core table core
+notes_begin at same = record { service = goes_begin at; told = λ world is. is ∙ ap (λ (v : ServiceView). Some (serviced world v)) (sym (same world is)) }
+
+pub notes_on : {S T W : Type 0} {means : Meaning T W S} {first middle last : T} {old mid new : ServiceCore S}
+    → NotesOn means first old middle mid → NotesOn means middle mid last new → NotesOn means first old last new
+notes_on one two = record { service = goes_on one.service two.service; told = λ world is. two.told _ (one.told world is) }
+
+-- also for a writer whose sequence was open before
+pub writer_at : {S T W : Type 0} {means : Meaning T W S} {first middle : T} {old mid : ServiceCore S} → ServesOn means first old middle mid → (place : ℕ)
+    → place < length (means.setup first).writers → is_closed (means.setup first) old place ≡ false → ServesWriter means middle mid place
+writer_at {means = means} {mid = mid} on place inside open_here = record {
+  service = goes_at on;
+  inside = subst (λ (s : Setup). place < length s.writers) (sym on.step.setup_stays) inside;
+  is_open = subst (λ (s : Setup). is_closed s mid place ≡ false) (sym on.step.setup_stays) (on.keeps.closed place inside ∙ open_here);
+}
+
+pub writer_on : {S T W : Type 0} {means : Meaning T W S} {first middle : T} {old mid : ServiceCore S} {place : ℕ}
+    → ServesOn means first old middle mid → ServesWriter means first old place → ServesWriter means middle mid place
+writer_on {place = place} on writer = writer_at on place writer.inside writer.is_open
 
 -- the session's own calls leave the agreement
 pub agrees_kept : {S : Type 0} → (setup : Setup) (view : ServiceView) (core done : ServiceCore S) → KeepsTaking core done → ServiceAgrees setup view core → ServiceAgrees setup view done

@@ -19,7 +19,7 @@ use Rattle.chunk_plain.specs.Histories.{happened, history_of}
 use Rattle.service_core.specs.declared.service.ServiceCore.{ServiceCore}
 use Rattle.service_core.specs.Routing.{buffer_at, IsAt}
 use Rattle.service_core.specs.Agreement.{AreKnownNotes, ServiceAgrees, first_of, spec_at, buffer_of}
-use Rattle.service_core.specs.Reading.{sequences_to, reads_in, noted_read, NotesReads, ReadsAll, FailsIn, FailsAmong, ReadsOne, FailsOne, ReadsSome}
+use Rattle.service_core.specs.Reading.{sequences_to, reads_in, noted_read, NotesReads, ReadsAll, FailsIn, FailsAmong, ReadsOne, FailsOne, ReadsSome, read_moment, read_yet}
 use Rattle.service_core.specs.Taking.{noted_more}
 use Rattle.service_core.proofs.HistoryLemmas.{history_stays}
 use Rattle.service_core.proofs.RouteLemmas.{buffers_append, buffers_none, at_after}
@@ -107,7 +107,7 @@ trace_more setup core old new events agrees history =
 
 -- The reading of a buffer goes on
 module _ {S : Type 0} (setup : Setup) (core : ServiceCore S) (number limit : ℕ) (old : ServiceView) (before : Intake) where
-  pub reads_begin : ReadsSome setup core core number limit 0 limit old old before before
+  pub reads_begin : ReadsSome setup core number limit (read_yet core 0 limit) (read_moment old before) (read_moment old before)
   reads_begin = record {
     events = [];
     rest = refl;
@@ -118,8 +118,8 @@ module _ {S : Type 0} (setup : Setup) (core : ServiceCore S) (number limit : ℕ
     many = (let plain : 0 + limit ≡ limit = omega arith in plain);
   }
 
-  pub reads_skip : (now : ServiceCore S) (place left : ℕ) (mid : ServiceView) (taken : Intake) → ReadsSome setup core now number limit place left old mid before taken
-      → place < length setup.writers → buffer_of setup place ≢ number → ReadsSome setup core now number limit (place + 1) left old mid before taken
+  pub reads_skip : (now : ServiceCore S) (place left : ℕ) (mid : ServiceView) (taken : Intake) → ReadsSome setup core number limit (read_yet now place left) (read_moment old before) (read_moment mid taken)
+      → place < length setup.writers → buffer_of setup place ≢ number → ReadsSome setup core number limit (read_yet now (place + 1) left) (read_moment old before) (read_moment mid taken)
   reads_skip now place left mid taken some below differs = record {
     events = some.events;
     rest = some.rest
@@ -131,7 +131,7 @@ module _ {S : Type 0} (setup : Setup) (core : ServiceCore S) (number limit : ℕ
     many = some.many;
   }
 
-  module _ (mid : ServiceCore S) (place left size : ℕ) (between : ServiceView) (taken : Intake) (some : ReadsSome setup core mid number limit place left old between before taken)
+  module _ (mid : ServiceCore S) (place left size : ℕ) (between : ServiceView) (taken : Intake) (some : ReadsSome setup core number limit (read_yet mid place left) (read_moment old before) (read_moment between taken))
       (below : place < length setup.writers) (same : buffer_of setup place ≡ number) (at : IsAt mid.buffers.items (number - 1) (place + 2) size)
       (known : AreKnownNotes between between.events) where
     -- what is still to come behind the next read
@@ -148,8 +148,8 @@ module _ {S : Type 0} (setup : Setup) (core : ServiceCore S) (number limit : ℕ
         ∙ ap (λ (es : List Event). some.events ++ es)
         (next_read mid.buffers.items (number - 1) (place + 2) size left (sequences_to number (place + 1) (drop (place + 1) setup.writers)) at)
 
-    pub reads_add : (now : ServiceCore S) (new : ServiceView) (after : Intake) (delivered : ℕ) → ReadsOne mid now (place + 2) left between new taken after delivered
-        → ReadsSome setup core now number limit (place + 1) (left - delivered) old new before after
+    pub reads_add : (now : ServiceCore S) (new : ServiceView) (after : Intake) (delivered : ℕ) → ReadsOne mid now (place + 2) left delivered (read_moment between taken) (read_moment new after)
+        → ReadsSome setup core number limit (read_yet now (place + 1) (left - delivered)) (read_moment old before) (read_moment new after)
     reads_add now new after delivered one =
         let event : Event = model.Read (place + 2) left in
         let bs : List Buffer = core.buffers.items in
@@ -177,8 +177,8 @@ module _ {S : Type 0} (setup : Setup) (core : ServiceCore S) (number limit : ℕ
               omega (arith, sum, most, is, long);
         }
 
-    pub reads_fail : (new : ServiceView) (after : Intake) → ServiceAgrees setup old core → FailsOne mid (place + 2) left between new taken after
-        → FailsAmong setup core number limit old new before after
+    pub reads_fail : (new : ServiceView) (after : Intake) → ServiceAgrees setup old core → FailsOne mid (place + 2) left (read_moment between taken) (read_moment new after)
+        → FailsAmong setup core number limit (read_moment old before) (read_moment new after)
     reads_fail new after agrees one =
         let event : Event = model.Read (place + 2) one.count in
         let history = history_one between new (history_of old) some.events (place + 2) one.count known some.history one.view in
@@ -198,8 +198,8 @@ module _ {S : Type 0} (setup : Setup) (core : ServiceCore S) (number limit : ℕ
               (subst (λ (i : Intake). FailsIn mid.buffers.items (place + 2) left one.count i after) some.taken one.fails);
         }
 
-  pub reads_end : (now : ServiceCore S) (place left delivered : ℕ) (new : ServiceView) (after : Intake) → ReadsSome setup core now number limit place left old new before after
-      → ServiceAgrees setup old core → length setup.writers ≤ place → delivered ≡ limit - left → ReadsAll setup core number limit old new before after delivered
+  pub reads_end : (now : ServiceCore S) (place left delivered : ℕ) (new : ServiceView) (after : Intake) → ReadsSome setup core number limit (read_yet now place left) (read_moment old before) (read_moment new after)
+      → ServiceAgrees setup old core → length setup.writers ≤ place → delivered ≡ limit - left → ReadsAll setup core number limit delivered (read_moment old before) (read_moment new after)
   reads_end now place left delivered new after some agrees past is =
       let all : reads_in setup core.buffers.items number limit ≡ some.events =
       some.rest

@@ -4,11 +4,11 @@ use Rattle.std.specs.Prelude.{cond, ◌==◌}
 use Rattle.std.proofs.lemmas.List.{set-set, set-get_or, take_more}
 use Rattle.std.proofs.lemmas.Bool.{eq-eqb, ne_eqb}
 use Rattle.trace_base.specs.declared.policy.WriterSpec.{WriterSpec}
-use Rattle.chunk_plain.specs.Setup.{Setup, range_of, producer_of, no_writer}
+use Rattle.chunk_plain.specs.Setup.{Setup, range_of, producer_of, IsChunkOf, no_writer}
 use Rattle.chunk_plain.specs.Views.{Content, Look, Taken, none_taken, Noted, Arrive, ServiceView, taken_of}
 use Rattle.service_core.specs.Agreement.{spec_at}
-use Rattle.service_core.specs.Looking.{looked}
-use Rattle.service_core.specs.Taking.{patched_where, takings, taken_more, took, IsOther, ShowsOther, TakesOf, Takes, places_of, TakesNext, SeesNone, SeesNoneOf, TakesSome}
+use Rattle.service_core.specs.Looking.{looked, SeesEach}
+use Rattle.service_core.specs.Taking.{patched_where, takings, taken_more, took, IsOther, ShowsOther, TakesOf, Takes, places_of, TakesNext, SeesNoneOf, TakesSome}
 use Rattle.service_core.proofs.LookLemmas.{shows_right}
 use Rattle.service_core.proofs.TakingLemmas.{taken_here}
 
@@ -77,7 +77,8 @@ takes_more place taken old mid new inside some next =
     }
 
 -- it saw none that is next
-pub takes_until : (setup : Setup) (place taken : ℕ) (old mid new : ServiceView) → TakesSome place taken old mid → SeesNone setup place mid new
+pub takes_until : (setup : Setup) (place taken : ℕ) (old mid new : ServiceView) → TakesSome place taken old mid
+    → SeesEach IsOther setup place (IsChunkOf setup (producer_of setup place)) mid new
     → taken ≤ (range_of setup (producer_of setup place)).count → TakesOf setup place taken old new
 takes_until setup place taken old mid new some none most =
     let count_is : (taken_of mid place).count ≡ (taken_of new place).count = sym (ap (λ (v : ServiceView). (taken_of v place).count) none.view) in

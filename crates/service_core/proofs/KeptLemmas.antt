@@ -1,5 +1,5 @@
 -- What the service reads of what it keeps is what its view and the set-up have.
-use Rattle.std.proofs.Common.{◌≡◌, ◌∙◌, ℕ, ◌+◌, ◌-◌, ◌<◌, List, length, get_or, sym, ap, subst, arith}
+use Rattle.std.proofs.Common.{◌≡◌, ◌∙◌, ℕ, ◌+◌, ◌-◌, ◌<◌, ◌≤◌, false, List, length, get_or, sym, ap, subst, arith}
 use Rattle.std.proofs.lemmas.List.{get_or_read, length-map}
 use Rattle.trace_base.specs.declared.policy.WriterSpec.{WriterSpec}
 use Rattle.page_geometry.specs.Sizes.{record_size}
@@ -7,9 +7,9 @@ use Rattle.chunk_plain.specs.declared.setup.ChunkRange.{ChunkRange}
 use Rattle.chunk_plain.specs.Setup.{Setup, range_of, size_of, producer_of, no_writer, from_of}
 use Rattle.chunk_plain.specs.Views.{Taken, ServiceView, taken_of}
 use Rattle.service_core.specs.declared.service.ServiceCore.{ServiceCore}
-use Rattle.service_core.specs.Routing.{IsAt, from_at}
-use Rattle.service_core.specs.Agreement.{ServiceAgrees, spec_at}
-use Rattle.service_core.specs.Taking.{IsRange}
+use Rattle.service_core.specs.Routing.{IsAt, from_at, is_closed_at}
+use Rattle.service_core.specs.Agreement.{ServiceAgrees, buffer_of, is_closed, spec_at}
+use Rattle.service_core.specs.Taking.{HasRoute, IsRange}
 use Rattle.service_core.proofs.TakingLemmas.{counts_at}
 use Rattle.service_core.proofs.RoutedLemmas.{stands, knows_from}
 
@@ -60,3 +60,22 @@ module _ {S : Type 0} (setup : Setup) (view : ServiceView) (core : ServiceCore S
       → from_at core.buffers.items (number - 1) sequence ≡ from_of setup place
   from_in_sequence spec number sequence read named back =
       ap (λ (q : ℕ). from_at core.buffers.items (number - 1) q) (sym back) ∙ from_here spec number read named
+
+  -- its chunks can be put in, also with another seat
+  pub has_route : (seat : S) (size : ℕ) → size ≡ size_of setup (producer_of setup place) → is_closed setup core place ≡ false → HasRoute setup (record core { seat = seat }) place size
+  has_route seat size size_is open_here =
+      let long = length-map view.taken (λ (t : Taken). t.count) in
+      let inside = has_place in
+      let few = agrees.routed.few in
+      let listed : place < length core.writers.items = subst (λ (ws : List WriterSpec). place < length ws) (sym agrees.writers) below in
+      let same : buffer_of setup place ≡ (spec_at core.writers.items place).buffer = ap (λ (ws : List WriterSpec). (spec_at ws place).buffer) (sym agrees.writers) in
+      record {
+        counted = subst (λ (ns : List ℕ). place < length ns) (sym agrees.taken) (omega (arith, long, inside));
+        listed = listed;
+        few = omega (arith, few, below);
+        buffer = subst (λ (b : ℕ). 1 ≤ b) same (agrees.routed.least place below);
+        at = subst (λ (b : ℕ). IsAt core.buffers.items (b - 1) (place + 2) (record_size size)) same
+            (subst (λ (n : ℕ). IsAt core.buffers.items (buffer_of setup place - 1) (place + 2) (record_size n)) (sym size_is) (stands setup view core place agrees below));
+        from = ap (λ (b : ℕ). from_at core.buffers.items (b - 1) (place + 2)) (sym same) ∙ knows_from setup view core place agrees below;
+        is_open = ap (λ (b : ℕ). is_closed_at core.buffers.items (b - 1) (place + 2)) (sym same) ∙ open_here;
+      }

@@ -86,6 +86,14 @@ module _ (Fact : LookFact) (setup : Setup) (place : ℕ) where
   sees_both first middle last old mid new high low =
       sees_behind (IsAmong middle last) (IsAmong first middle) (IsAmong first last) old mid new high low (λ chunk is. ⊎_swap (among_parts first middle last chunk is))
 
+  -- fewer of them
+  pub sees_fewer : (first last more : ℕ) (old new : ServiceView) → last ≤ more → SeesEach Fact setup place (IsAmong first more) old new → SeesEach Fact setup place (IsAmong first last) old new
+  sees_fewer first last more old new most seen = record {
+    looks = seen.looks;
+    view = seen.view;
+    each = λ chunk is. let below = is.below in seen.each chunk (record { least = is.least; below = omega (arith, below, most) });
+  }
+
   -- all chunks of the writer's producer
   pub sees_all : (first count last : ℕ) (old new : ServiceView) → IsRange (range_of setup (producer_of setup place)) first count → first + count ≤ last
       → SeesEach Fact setup place (IsAmong first last) old new → SeesEach Fact setup place (IsChunkOf setup (producer_of setup place)) old new

@@ -17,6 +17,7 @@ use Rattle.trace_model.specs.History.{Event, buffers_after, record_in, records_a
 use Rattle.delivery_laws.proofs.LimitLemmas.{delivered_within}
 use Rattle.sequence_reader.specs.Ends.{record_bytes, EndsInRecordAt}
 use Rattle.chunk_plain.specs.Setup.{Setup, size_of, producer_of}
+use Rattle.chunk_plain.specs.Meaning.{Meaning}
 use Rattle.chunk_plain.specs.Views.{Read, ServiceView, taken_of}
 use Rattle.service_core.specs.declared.service.ServiceCore.{ServiceCore}
 use Rattle.service_core.specs.Routing.{buffer_at, IsAt}
@@ -26,8 +27,9 @@ use Rattle.service_core.specs.Reading.{FailsIn}
 use Rattle.service_core.specs.Taking.{noted_more}
 use Rattle.service_core.proofs.KeptLemmas.{found_at}
 use Rattle.service_core.proofs.RouteLemmas.{buffers_append, buffers_none, event_at}
-use Rattle.service_core.proofs.RoutedLemmas.{closed_by_none}
+use Rattle.service_core.proofs.RoutedLemmas.{closed_by_none, keeps_open}
 use Rattle.service_core.proofs.CloseLemmas.{agrees_noted}
+use Rattle.service_core.specs.Calls.{ServesAt, NotesOn, NotesAlone}
 
 -- Records, one behind another
 
@@ -126,3 +128,19 @@ agrees_read setup old new core done q n agrees keeps buffers_are taken_is noted 
   where
     stage_of : ℕ → Bool → Stage
     stage_of place b = record { come = (taken_of old place).count; closed = b; due = [] }
+
+-- it notes the read and serves on
+pub read_on : {S T W : Type 0} (means : Meaning T W S) (table : T) (core : ServiceCore S) (left : T) (done : ServiceCore S) (q n : ℕ) → ServesAt means table core
+    → KeepsFields core done → done.buffers.items ≡ buffers_after core.buffers.items (model.Read q n ∷ []) → done.taken.items ≡ core.taken.items
+    → NotesAlone means (Read q n ∷ []) table core.seat left done.seat → NotesOn means table core left done
+read_on means table core left done q n at keeps buffers_are taken_is notes =
+    let setup : Setup = means.setup table in
+    let old : ServiceView = means.service_view table core.seat in
+    record {
+      service = record {
+        agrees = agrees_read setup old (means.service_view left done.seat) core done q n at.agrees keeps buffers_are taken_is notes.view;
+        keeps = keeps_open setup old core done (model.Read q n ∷ []) at.agrees keeps buffers_are (refl, tt);
+        step = notes.step;
+      };
+      told = notes.told;
+    }

@@ -1,4 +1,5 @@
 pub mod Agreement
+pub mod Calls
 pub mod Closing
 pub mod Looking
 pub mod Making

@@ -1,7 +1,10 @@
--- What looks at chunks show.
+-- What looks at chunks show, and loads.
 use Rattle.std.specs.Prelude.{◌≡◌, ℕ, ◌<◌, ◌≤◌, List, [], ◌∷◌, ◌++◌, Some, slice_get, slice_index_or}
 use Rattle.chunk_plain.specs.Setup.{Setup, id_at}
 use Rattle.chunk_plain.specs.Views.{Look, ServiceView, taken_of}
+use Rattle.chunk_plain.specs.World.{World}
+use Rattle.chunk_plain.specs.Words.{ShowsFound}
+use Rattle.chunk_plain.specs.Meaning.{Meaning, IsServiceStep}
 
 -- so many looks more
 abbrev pub looked : ServiceView → List Look → ServiceView
@@ -38,3 +41,10 @@ pub record SeesEach (Fact : LookFact) (setup : Setup) (place : ℕ) (IsOne : ℕ
   pub looks : List Look
   pub view : new ≡ looked old looks
   pub each : (chunk : ℕ) → IsOne chunk → ShowsFact Fact setup place (taken_of old place).count chunk looks
+
+-- The chunk's payload was loaded, and begins with what was found of it. The seat knows what it knew, and the table is as it was.
+pub record LoadsFound {T W S : Type 0} (means : Meaning T W S) (chunk : ℕ) (bytes : List ℕ) (table : T) (seat : S) (left : T) (after : S) : Type 0 where
+  pub view : means.service_view left after ≡ means.service_view table seat
+  pub found : ShowsFound (means.service_view table seat) chunk bytes
+  pub step : IsServiceStep means table seat left after
+  pub told : (world : World) → means.told table ≡ Some world → means.told left ≡ Some world

@@ -37,12 +37,20 @@ pub record NotesReads {S : Type 0} (setup : Setup) (core : ServiceCore S) (event
   pub trace : records_after (first_of setup core) (history_of new)
       ≡ records_after (first_of setup core) (history_of old) ++ records_after core.buffers.items events
 
+-- what a read begins with, and what it comes to: what the service's seat knows, and what the sink has taken
+pub record ReadMoment : Type 0 where
+  pub view : ServiceView
+  pub taken : Intake
+
+-- the moment at which these stand so
+abbrev pub read_moment : ServiceView → Intake → ReadMoment
+read_moment view taken = record { view = view; taken = taken }
+
 -- A buffer was read: its reads were noted, the sink took their records, and so many packets were delivered.
-pub record ReadsAll {S : Type 0} (setup : Setup) (core : ServiceCore S) (number limit : ℕ) (old new : ServiceView) (before after : Intake) (delivered : ℕ) : Type 0
-  where
-    pub notes : NotesReads setup core (reads_in setup core.buffers.items number limit) old new
-    pub taken : after ≡ after_told before (trace_of (records_after core.buffers.items (reads_in setup core.buffers.items number limit)))
-    pub many : delivered ≡ length (records_after core.buffers.items (reads_in setup core.buffers.items number limit))
+pub record ReadsAll {S : Type 0} (setup : Setup) (core : ServiceCore S) (number limit delivered : ℕ) (before after : ReadMoment) : Type 0 where
+  pub notes : NotesReads setup core (reads_in setup core.buffers.items number limit) before.view after.view
+  pub taken : after.taken ≡ after_told before.taken (trace_of (records_after core.buffers.items (reads_in setup core.buffers.items number limit)))
+  pub many : delivered ≡ length (records_after core.buffers.items (reads_in setup core.buffers.items number limit))
 
 -- A write failed in a read of one sequence: the sink had taken the records before whole, so many, and took a front part of the next one.
 pub record FailsIn (buffers : List Buffer) (sequence limit count : ℕ) (before after : Intake) : Type 0 where
@@ -53,39 +61,48 @@ pub record FailsIn (buffers : List Buffer) (sequence limit count : ℕ) (before 
   pub part : TakesPart (after_told before (trace_of (records_at buffers (model.Read sequence count)))) after failed.bytes
 
 -- A write failed in one of the reads of a buffer: the reads before it were noted, then this one with the number that it delivered, and no further one.
-pub record FailsAmong {S : Type 0} (setup : Setup) (core : ServiceCore S) (number limit : ℕ) (old new : ServiceView) (before after : Intake) : Type 0 where
+pub record FailsAmong {S : Type 0} (setup : Setup) (core : ServiceCore S) (number limit : ℕ) (before after : ReadMoment) : Type 0 where
   pub firsts : List model.Event
   pub sequence : ℕ
   pub left : ℕ
   pub count : ℕ
   pub others : List model.Event
   pub cut : reads_in setup core.buffers.items number limit ≡ firsts ++ model.Read sequence left ∷ others
-  pub notes : NotesReads setup core (firsts ++ model.Read sequence count ∷ []) old new
+  pub notes : NotesReads setup core (firsts ++ model.Read sequence count ∷ []) before.view after.view
   pub fails : FailsIn (buffers_after core.buffers.items firsts) sequence left count
-      (after_told before (trace_of (records_after core.buffers.items firsts))) after
+      (after_told before.taken (trace_of (records_after core.buffers.items firsts))) after.taken
 
 -- One sequence was read: its read was noted and done, and the sink took its records, so many.
-pub record ReadsOne {S : Type 0} (core done : ServiceCore S) (sequence limit : ℕ) (old new : ServiceView) (before after : Intake) (delivered : ℕ) : Type 0 where
-  pub view : new ≡ noted_more old (Read sequence limit ∷ [])
+pub record ReadsOne {S : Type 0} (core done : ServiceCore S) (sequence limit delivered : ℕ) (before after : ReadMoment) : Type 0 where
+  pub view : after.view ≡ noted_more before.view (Read sequence limit ∷ [])
   pub buffers : done.buffers.items ≡ buffers_after core.buffers.items (model.Read sequence limit ∷ [])
-  pub taken : after ≡ after_told before (trace_of (records_at core.buffers.items (model.Read sequence limit)))
+  pub taken : after.taken ≡ after_told before.taken (trace_of (records_at core.buffers.items (model.Read sequence limit)))
   pub many : delivered ≡ length (records_at core.buffers.items (model.Read sequence limit))
   pub most : delivered ≤ limit
 
 -- a write failed in it, and it was noted with the number that it delivered
-pub record FailsOne {S : Type 0} (core : ServiceCore S) (sequence limit : ℕ) (old new : ServiceView) (before after : Intake) : Type 0 where
+pub record FailsOne {S : Type 0} (core : ServiceCore S) (sequence limit : ℕ) (before after : ReadMoment) : Type 0 where
   pub count : ℕ
-  pub view : new ≡ noted_more old (Read sequence count ∷ [])
-  pub fails : FailsIn core.buffers.items sequence limit count before after
+  pub view : after.view ≡ noted_more before.view (Read sequence count ∷ [])
+  pub fails : FailsIn core.buffers.items sequence limit count before.taken after.taken
+
+-- how far the reading of a buffer has come: the service as it is then, the place of the next writer, and what is left of the limit
+pub record ReadYet (S : Type 0) : Type 0 where
+  pub core : ServiceCore S
+  pub place : ℕ
+  pub left : ℕ
+
+-- as these say
+abbrev pub read_yet : {S : Type 0} → ServiceCore S → (place left : ℕ) → ReadYet S
+read_yet core place left = record { core = core; place = place; left = left }
 
 -- These reads of a buffer are done, and those of the writers from this place on are still to come, with so much left of the limit.
-pub record ReadsSome {S : Type 0} (setup : Setup) (core now : ServiceCore S) (number limit place left : ℕ) (old new : ServiceView) (before after : Intake) : Type 0
-  where
-    pub events : List model.Event
-    pub rest : reads_in setup core.buffers.items number limit
-        ≡ events ++ reads_of left (buffer_at now.buffers.items (number - 1)) (sequences_to number place (drop place setup.writers))
-    pub view : new ≡ noted_more old (flat_map noted_read events)
-    pub history : history_of new ≡ history_of old ++ events
-    pub buffers : now.buffers.items ≡ buffers_after core.buffers.items events
-    pub taken : after ≡ after_told before (trace_of (records_after core.buffers.items events))
-    pub many : length (records_after core.buffers.items events) + left ≡ limit
+pub record ReadsSome {S : Type 0} (setup : Setup) (core : ServiceCore S) (number limit : ℕ) (yet : ReadYet S) (before now : ReadMoment) : Type 0 where
+  pub events : List model.Event
+  pub rest : reads_in setup core.buffers.items number limit
+      ≡ events ++ reads_of yet.left (buffer_at yet.core.buffers.items (number - 1)) (sequences_to number yet.place (drop yet.place setup.writers))
+  pub view : now.view ≡ noted_more before.view (flat_map noted_read events)
+  pub history : history_of now.view ≡ history_of before.view ++ events
+  pub buffers : yet.core.buffers.items ≡ buffers_after core.buffers.items events
+  pub taken : now.taken ≡ after_told before.taken (trace_of (records_after core.buffers.items events))
+  pub many : length (records_after core.buffers.items events) + yet.left ≡ limit

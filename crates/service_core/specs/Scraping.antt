@@ -1,19 +1,21 @@
 -- What a scrape notes.
 use Rattle.std.specs.Prelude.{◌≡◌, ℕ, ◌+◌, ◌-◌, ◌%◌, ◌^◌, ◌<◌, ◌≤◌, ◌⊎◌, nat_lt, List, [], ◌∷◌, ◌++◌, length, Option, Some, slice_get, slice_index_or, if◌then◌else◌}
 use Rattle.std.specs.List.{flat_map}
+use Rattle.trace_base.specs.declared.limits.TheConstants.{MAX_FRAGMENTS}
 use Rattle.trace_base.specs.declared.policy.WriterSpec.{WriterSpec}
 use Rattle.page_geometry.specs.declared.chunk_header.ChunkHeader.{ChunkHeader}
 use Rattle.page_geometry.specs.declared.chunk_state.ChunkState.TheVariants.{BeingWritten}
 use Rattle.page_geometry.specs.PageBits.{HasState}
 use Rattle.page_geometry.specs.Header.{packed}
 use Rattle.chunk_plain.specs.declared.tokens.Seen.{Seen}
-use Rattle.chunk_plain.specs.Setup.{Setup, spot, producer_of, IsChunkOf, sequence_of}
+use Rattle.chunk_plain.specs.Setup.{Setup, spot, producer_of, IsChunkOf, sequence_of, id_at}
 use Rattle.chunk_plain.specs.Views.{At, Draft, no_draft, BegunChunk, Held, Completed, Found, Look, Noted, Partial, ServiceView, taken_of}
 use Rattle.chunk_plain.specs.World.{World, Status, Writing, writer}
 use Rattle.chunk_plain.specs.Steps.{serviced}
 use Rattle.chunk_plain.specs.Drafts.{IsFound}
 use Rattle.chunk_plain.specs.Histories.{found_among}
 use Rattle.chunk_plain.specs.Words.{FoundAlike}
+use Rattle.chunk_plain.specs.Meaning.{Meaning}
 use Rattle.service_core.specs.Looking.{looked, IsAmong, SeesFact, SeesEach}
 use Rattle.service_core.specs.Taking.{noted_more, Takes, places_of}
 use Rattle.service_core.specs.Told.{StandsBehind, NoneLeft, FindsState, FindsEach}
@@ -118,6 +120,13 @@ pub record PartLooked (view : ServiceView) (chunk place position count flags : �
   pub front : found.head.flags % 2 ≡ flags % 2
   pub is : IsFound found
 
+-- A look at the chunk found so many finished fragments, at least one, under the id of the writer's next position.
+pub record IsLookedPart (setup : Setup) (view : ServiceView) (place chunk : ℕ) (header : ChunkHeader) (finished : ℕ) : Type 0 where
+  pub some : 0 < finished
+  pub count : finished ≤ MAX_FRAGMENTS
+  pub id : header.chunk_id ≡ id_at setup place (taken_of view place).count
+  pub looked : PartLooked view chunk place (taken_of view place).count finished header.flags
+
 -- In told worlds
 
 -- the note of a chunk's finished fragments, where the writer holds it and there are any
@@ -158,6 +167,18 @@ FindsNoPartOf place position first last old told view = FindsEach (IsntPart plac
 pub record NotesPart (place : ℕ) (old : World) (told : Option World) (before view : ServiceView) : Type 0 where
   pub told_is : told ≡ Some (serviced old view)
   pub events : view.events ≡ before.events ++ part_held old place
+
+-- finished fragments came of the chunk that the writer at this place holds as its next one
+pub record PartTaken {T W S : Type 0} (means : Meaning T W S) (place : ℕ) (table : T) (seat : S) (left : T) (after : S) : Type 0 where
+  pub takes : TakesPart (means.setup table) place (means.service_view table seat) (means.service_view left after)
+  pub told : (world : World) → means.told table ≡ Some world
+      → NotesPart place world (means.told left) (means.service_view table seat) (means.service_view left after)
+
+-- or this chunk was looked at, and nothing of it comes so
+pub record NoPartTaken {T W S : Type 0} (means : Meaning T W S) (place chunk : ℕ) (table : T) (seat : S) (left : T) (after : S) : Type 0 where
+  pub sees : SeesNoPart (means.setup table) place chunk (means.service_view table seat) (means.service_view left after)
+  pub told : (world : World) → means.told table ≡ Some world
+      → FindsNoPart place (taken_of (means.service_view table seat) place).count chunk world (means.told left) (means.service_view left after)
 
 -- The told world behind a scrape: none that is complete is left, and of what the writers hold their finished fragments are noted.
 pub record ScrapesWorld (setup : Setup) (producer taken : ℕ) (old : World) (before : ServiceView) (told : Option World) (view : ServiceView) : Type 0 where

@@ -1,15 +1,27 @@
 -- What the service's view has more once chunks were taken.
-use Rattle.std.specs.Prelude.{◌≡◌, ℕ, suc, ◌+◌, ◌^◌, ◌<◌, ◌≤◌, ◌⊎◌, ◌==◌, List, [], ◌∷◌, ◌++◌, length, slice_set, if◌then◌else◌}
+use Rattle.std.specs.Prelude.{◌≡◌, ℕ, suc, ◌+◌, ◌-◌, ◌^◌, ◌<◌, ◌≤◌, ◌⊎◌, ◌==◌, false, List, [], ◌∷◌, ◌++◌, length, vec_len, slice_set, if◌then◌else◌}
+use Rattle.trace_base.specs.declared.limits.TheConstants.{MAX_FRAGMENTS, MAX_WRITERS}
 use Rattle.trace_base.specs.declared.policy.WriterSpec.{WriterSpec}
 use Rattle.page_geometry.specs.declared.chunk_header.ChunkHeader.{ChunkHeader}
 use Rattle.page_geometry.specs.declared.chunk_state.ChunkState.TheVariants.{Complete}
 use Rattle.page_geometry.specs.PageBits.{HasState}
 use Rattle.page_geometry.specs.Header.{packed}
 use Rattle.chunk_plain.specs.declared.tokens.TheConstants.{POSITION_LIMIT}
+use Rattle.page_geometry.specs.declared.chunk_header.TheConstants.{MAX_FLAGS}
+use Rattle.page_geometry.specs.Sizes.{record_size}
 use Rattle.trace_model.specs.Images.{Patch}
+use Rattle.trace_model.specs.History as model
+use Rattle.trace_model.specs.History.{buffers_after}
 use Rattle.chunk_plain.specs.declared.setup.ChunkRange.{ChunkRange}
-use Rattle.chunk_plain.specs.Setup.{Setup, spot, range_of, producer_of, IsChunkOf, sequence_of}
+use Rattle.chunk_plain.specs.declared.tokens.Taken.{Taken as Token}
+use Rattle.chunk_plain.specs.Setup.{Setup, spot, range_of, producer_of, IsChunkOf, sequence_of, id_at, from_of}
 use Rattle.chunk_plain.specs.Views.{Content, Look, Taken, Noted, Arrive, Patched, ServiceView, taken_of}
+use Rattle.chunk_plain.specs.Owned.{times}
+use Rattle.chunk_plain.specs.Words.{taken_content}
+use Rattle.chunk_plain.specs.Meaning.{Meaning}
+use Rattle.service_core.specs.declared.service.ServiceCore.{ServiceCore}
+use Rattle.service_core.specs.Routing.{IsAt, is_closed_at, from_at, arrivals_of}
+use Rattle.service_core.specs.Agreement.{KeepsFields, spec_at}
 use Rattle.service_core.specs.Looking.{IsAmong, ShowsFact, SeesFact, SeesEach}
 
 -- the patches of a chunk are noted directly behind its arrival, where it brings any
@@ -106,10 +118,6 @@ pub record TakesNext (place : ℕ) (old new : ServiceView) : Type 0 where
   pub content : Content
   pub view : new ≡ took old place looks (content ∷ [])
 
--- each chunk of the producer was looked at, and none is the next one of the writer at this place
-abbrev pub SeesNone : Setup → (place : ℕ) → ServiceView → ServiceView → Type 0
-SeesNone setup place old new = SeesEach IsOther setup place (IsChunkOf setup (producer_of setup place)) old new
-
 -- the chunks from this one up to another were looked at, and none is the next one of the writer at this place
 abbrev pub SeesNoneOf : Setup → (place first last : ℕ) → ServiceView → ServiceView → Type 0
 SeesNoneOf setup place first last old new = SeesEach IsOther setup place (IsAmong first last) old new
@@ -120,3 +128,34 @@ pub record TakesSome (place taken : ℕ) (old new : ServiceView) : Type 0 where
   pub contents : List Content
   pub many : length contents ≡ taken
   pub view : new ≡ took old place looks contents
+
+-- One chunk that was taken
+
+-- The seat took the chunk out of the table, as the one at this position of the writer at this place: it has its spot's size and the
+-- position's id, and its numbers have their widths.
+pub record TakenFor {T W S : Type 0} (means : Meaning T W S) (table : T) (seat : S) (place position : ℕ) (taken : Token) : Type 0 where
+  pub serves : means.serves table seat
+  pub reading : 0 < times taken.chunk (means.service_view table seat).reading
+  pub whole : vec_len taken.body.payload ≡ (spot (means.setup table) taken.chunk).payload_size
+  pub count : taken.header.count ≤ MAX_FRAGMENTS
+  pub flags : taken.header.flags ≤ MAX_FLAGS
+  pub id : taken.header.chunk_id ≡ id_at (means.setup table) place position
+  pub fits : position < POSITION_LIMIT
+
+-- The service has the writer at this place, and a buffer in which the writer's sequence has records for payloads of this size and isn't closed.
+pub record HasRoute {S : Type 0} (setup : Setup) (core : ServiceCore S) (place size : ℕ) : Type 0 where
+  pub counted : place < length core.taken.items
+  pub listed : place < length core.writers.items
+  pub few : place < MAX_WRITERS
+  pub buffer : 1 ≤ (spec_at core.writers.items place).buffer
+  pub at : IsAt core.buffers.items ((spec_at core.writers.items place).buffer - 1) (sequence_of place) (record_size size)
+  pub from : from_at core.buffers.items ((spec_at core.writers.items place).buffer - 1) (sequence_of place) ≡ from_of setup place
+  pub is_open : is_closed_at core.buffers.items ((spec_at core.writers.items place).buffer - 1) (sequence_of place) ≡ false
+
+-- the chunk arrived in its writer's buffer, its patches were applied there, and it counts as taken
+pub record PutsIn {S : Type 0} (setup : Setup) (place position : ℕ) (taken : Token) (core done : ServiceCore S) : Type 0 where
+  pub buffers : done.buffers.items
+      ≡ buffers_after (buffers_after core.buffers.items (arrivals_of (taken_content setup place position taken).image))
+      (model.Patched (sequence_of place) (taken_content setup place position taken).patches ∷ [])
+  pub counts : done.taken.items ≡ slice_set core.taken.items place (position + 1)
+  pub fields : KeepsFields core done

@@ -1,5 +1,5 @@
 //! What a service knows.
-ghost use Rattle.std.specs.Prelude.{◌≡◌, ℕ, ◌+◌, ◌-◌, ◌<◌, ◌≤◌, length};
+ghost use Rattle.std.specs.Prelude.{◌≡◌, ◌+◌, ◌-◌, ◌<◌, ◌≤◌, length};
 ghost use Rattle.trace_base.specs.declared.limits.TheConstants.{FIRST_SEQUENCE};
 ghost use Rattle.trace_model.specs.History.{buffers_after};
 ghost use Rattle.trace_model.specs.Sequences.{sequence_in};

@@ -1,14 +1,13 @@
 //! Closing a producer.
-ghost use Rattle.std.specs.Prelude.{◌≡◌, ◌<◌, false, Some, [], ◌∷◌, length};
+ghost use Rattle.std.specs.Prelude.{◌≡◌, Some, [], ◌∷◌};
 ghost use Rattle.chunk_plain.specs.Meaning.{IsServiceStep};
 ghost use Rattle.chunk_plain.specs.Setup.{sequence_of};
 ghost use Rattle.chunk_plain.specs.Views.{Closed};
 ghost use Rattle.chunk_plain.specs.World.{World};
-ghost use Rattle.chunk_plain.specs.Steps.{serviced};
-ghost use Rattle.service_core.specs.Agreement.{ServiceAgrees, IsOpen, is_closed};
-ghost use Rattle.service_core.specs.Taking.{noted_more};
+ghost use Rattle.service_core.specs.Agreement.{ServiceAgrees, IsOpen};
 ghost use Rattle.service_core.specs.Closing.{ClosesOne, ClosesAll, TakesAndCloses};
 ghost use Rattle.service_core.specs.Told.{LeavesNone};
+ghost use Rattle.service_core.specs.Calls.{ServesAt, ServesWriter, NotesAlone};
 
 use crate::routing::close_in;
 use crate::service::ServiceCore;
@@ -19,17 +18,10 @@ impl<S> ServiceCore<S> {
     /// Closes the sequence of the writer at this place, counted from 0. No chunk is taken: it is for a
     /// sequence whose chunks all come by commits.
     pub fn close_writer<W: Words<Service = S>>(&mut self, table: &mut W, place: usize)
-        requires serves { W.means.serves table.old self.old.seat }
-        requires agrees { ServiceAgrees (W.means.setup table.old) (W.means.service_view table.old self.old.seat) self.old }
-        requires place { place < length (W.means.setup table.old).writers }
-        requires open { is_closed (W.means.setup table.old) self.old place ≡ false }
+        requires writer { ServesWriter W.means table.old self.old place }
         ensures agrees { ServiceAgrees (W.means.setup table.old) (W.means.service_view table.new self.new.seat) self.new }
         ensures closes { ClosesOne (W.means.setup table.old) place self.old self.new }
-        ensures step { IsServiceStep W.means table.old self.old.seat table.new self.new.seat }
-        ensures view { W.means.service_view table.new self.new.seat
-            ≡ noted_more (W.means.service_view table.old self.old.seat) (Closed (sequence_of place) ∷ []) }
-        ensures told { (world : World) → W.means.told table.old ≡ Some world
-            → W.means.told table.new ≡ Some (serviced world (W.means.service_view table.new self.new.seat)) }
+        ensures notes { NotesAlone W.means (Closed (sequence_of place) ∷ []) table.old self.old.seat table.new self.new.seat }
     {
         let sequence = place as u32 + FIRST_SEQUENCE;
         let index = usize::from(self.writers[place].buffer) - 1;
@@ -42,8 +34,7 @@ impl<S> ServiceCore<S> {
     /// Takes the complete chunks of the producer's writers, as `collect` does, and then closes their
     /// sequences, in rising number. Answers how many chunks it took.
     pub fn close_producer<W: Words<Service = S>>(&mut self, table: &mut W, producer: u16) -> u64
-        requires serves { W.means.serves table.old self.old.seat }
-        requires agrees { ServiceAgrees (W.means.setup table.old) (W.means.service_view table.old self.old.seat) self.old }
+        requires serves { ServesAt W.means table.old self.old }
         requires open { IsOpen (W.means.setup table.old) self.old producer }
         ensures agrees { ServiceAgrees (W.means.setup table.old) (W.means.service_view table.new self.new.seat) self.new }
         ensures closes { ClosesAll (W.means.setup table.old) producer self.old self.new }

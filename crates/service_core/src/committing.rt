@@ -1,18 +1,16 @@
 //! Images that come by a commit.
-ghost use Rattle.std.specs.Prelude.{◌≡◌, ◌≢◌, ℕ, ◌+◌, ◌-◌, ◌<◌, ◌≤◌, false, Some, length, map, IsOkAnd, Err};
-ghost use Rattle.trace_base.specs.declared.limits.TheConstants.{MAX_FRAGMENTS, FIRST_SEQUENCE};
-ghost use Rattle.page_geometry.specs.declared.chunk_header.TheConstants.{MAX_FLAGS};
+ghost use Rattle.std.specs.Prelude.{◌≡◌, ◌≢◌, ◌-◌, map, IsOkAnd, Err};
+ghost use Rattle.trace_base.specs.declared.limits.TheConstants.{FIRST_SEQUENCE};
 ghost use Rattle.chunk_image.specs.Values.{image_value};
 ghost use Rattle.commit_body.specs.Patches.{patch_value};
 ghost use Rattle.trace_model.specs.Arrivals.{image_arrival_of};
 ghost use Rattle.trace_model.specs.Ids.{placed_image, placed_patches};
 ghost use Rattle.trace_buffer.specs.Answers.{arrived_value};
-ghost use Rattle.chunk_plain.specs.Meaning.{IsServiceStep};
-ghost use Rattle.chunk_plain.specs.Setup.{size_of, producer_of, from_of};
-ghost use Rattle.chunk_plain.specs.World.{World};
-ghost use Rattle.chunk_plain.specs.Steps.{notes_commit, serviced};
+ghost use Rattle.chunk_plain.specs.Setup.{from_of};
+ghost use Rattle.chunk_plain.specs.Steps.{notes_commit};
 ghost use Rattle.service_core.specs.Routing.{buffer_at};
-ghost use Rattle.service_core.specs.Agreement.{ServiceAgrees, KeepsRest, is_closed, buffer_of};
+ghost use Rattle.service_core.specs.Agreement.{buffer_of};
+ghost use Rattle.service_core.specs.Calls.{ServesAt, CanCome, NotesOn};
 
 use crate::routing::commit_in;
 use crate::service::ServiceCore;
@@ -42,18 +40,9 @@ impl<S> ServiceCore<S> {
         image: &Image<'_>,
         patches: &[Patch],
     ) -> Result<Arrived, WrongTarget>
-        requires serves { W.means.serves table.old self.old.seat }
-        requires agrees { ServiceAgrees (W.means.setup table.old) (W.means.service_view table.old self.old.seat) self.old }
-        requires least { FIRST_SEQUENCE ≤ image.now.sequence }
-        requires most { image.now.sequence < FIRST_SEQUENCE + length (W.means.setup table.old).writers }
-        requires open { is_closed (W.means.setup table.old) self.old (image.now.sequence - FIRST_SEQUENCE) ≡ false }
-        requires size { length image.now.payload.now
-            ≡ size_of (W.means.setup table.old) (producer_of (W.means.setup table.old) (image.now.sequence - FIRST_SEQUENCE)) }
-        requires count { image.now.count ≤ MAX_FRAGMENTS }
-        requires flags { image.now.flags ≤ MAX_FLAGS }
-        ensures agrees { ServiceAgrees (W.means.setup table.old) (W.means.service_view table.new self.new.seat) self.new }
-        ensures keeps { KeepsRest (W.means.setup table.old) self.old self.new }
-        ensures step { IsServiceStep W.means table.old self.old.seat table.new self.new.seat }
+        requires serves { ServesAt W.means table.old self.old }
+        requires image { CanCome (W.means.setup table.old) self.old (image_value image.now) }
+        ensures leaves { NotesOn W.means table.old self.old table.new self.new }
         ensures wrong { buffer_of (W.means.setup table.old) (image.now.sequence - FIRST_SEQUENCE) ≢ target
             → (result ≡ Err (record { buffer = buffer_of (W.means.setup table.old) (image.now.sequence - FIRST_SEQUENCE) }))
             × (self.new ≡ self.old) × (table.new ≡ table.old) }
@@ -67,8 +56,6 @@ impl<S> ServiceCore<S> {
               image = placed_image from (image_value image.now);
               patches = placed_patches from (map patch_value patches.now);
             }) }
-        ensures told { (world : World) → W.means.told table.old ≡ Some world
-            → W.means.told table.new ≡ Some (serviced world (W.means.service_view table.new self.new.seat)) }
     {
         let place = (image.sequence - FIRST_SEQUENCE) as usize;
         let buffer = self.writers[place].buffer;

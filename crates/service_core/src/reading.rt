@@ -1,12 +1,9 @@
 //! Reading a buffer.
-ghost use Rattle.std.specs.Prelude.{◌≡◌, ◌<◌, Some, length, IfOk, OnErr, OnOk};
+ghost use Rattle.std.specs.Prelude.{◌<◌, length, IfOk, OnErr, OnOk};
 ghost use Rattle.byte_io.specs.Bytes.{CountsFaults};
-ghost use Rattle.chunk_plain.specs.Meaning.{IsServiceStep};
 ghost use Rattle.chunk_plain.specs.Setup.{sequence_of};
-ghost use Rattle.chunk_plain.specs.World.{World};
-ghost use Rattle.chunk_plain.specs.Steps.{serviced};
-ghost use Rattle.service_core.specs.Agreement.{ServiceAgrees, KeepsRest};
-ghost use Rattle.service_core.specs.Reading.{ReadsAll, FailsAmong, ReadsOne, FailsOne};
+ghost use Rattle.service_core.specs.Reading.{ReadsAll, FailsAmong, ReadsOne, FailsOne, read_moment};
+ghost use Rattle.service_core.specs.Calls.{ServesReads, NotesOn};
 
 use crate::service::ServiceCore;
 use byte_io::put::WriteFault;
@@ -25,22 +22,16 @@ impl<S> ServiceCore<S> {
         limit: u64,
         out: &mut O,
     ) -> Result<u64, WriteFault>
-        requires serves { W.means.serves table.old self.old.seat }
-        requires agrees { ServiceAgrees (W.means.setup table.old) (W.means.service_view table.old self.old.seat) self.old }
-        requires reads { W.means.takes_reads table.old self.old.seat }
+        requires asks { ServesReads W.means table.old self.old }
         requires place { place < length (W.means.setup table.old).writers }
         requires may { O.may_write out.old }
-        ensures agrees { ServiceAgrees (W.means.setup table.old) (W.means.service_view table.new self.new.seat) self.new }
-        ensures keeps { KeepsRest (W.means.setup table.old) self.old self.new }
-        ensures step { IsServiceStep W.means table.old self.old.seat table.new self.new.seat }
-        ensures reads { IfOk result (λ delivered. ReadsOne self.old self.new (sequence_of place) limit
-            (W.means.service_view table.old self.old.seat) (W.means.service_view table.new self.new.seat)
-            (O.taken out.old) (O.taken out.new) delivered) }
+        ensures leaves { NotesOn W.means table.old self.old table.new self.new }
+        ensures reads { IfOk result (λ delivered. ReadsOne self.old self.new (sequence_of place) limit delivered
+            (read_moment (W.means.service_view table.old self.old.seat) (O.taken out.old))
+            (read_moment (W.means.service_view table.new self.new.seat) (O.taken out.new))) }
         ensures fails { OnErr result (FailsOne self.old (sequence_of place) limit
-            (W.means.service_view table.old self.old.seat) (W.means.service_view table.new self.new.seat)
-            (O.taken out.old) (O.taken out.new)) }
-        ensures told { (world : World) → W.means.told table.old ≡ Some world
-            → W.means.told table.new ≡ Some (serviced world (W.means.service_view table.new self.new.seat)) }
+            (read_moment (W.means.service_view table.old self.old.seat) (O.taken out.old))
+            (read_moment (W.means.service_view table.new self.new.seat) (O.taken out.new))) }
         ensures count { CountsFaults (O.faults out.old) (O.faults out.new) result }
         ensures goes_on { OnOk result (O.may_write out.new) }
     {
@@ -71,21 +62,15 @@ impl<S> ServiceCore<S> {
         limit: u64,
         out: &mut O,
     ) -> Result<u64, WriteFault>
-        requires serves { W.means.serves table.old self.old.seat }
-        requires agrees { ServiceAgrees (W.means.setup table.old) (W.means.service_view table.old self.old.seat) self.old }
-        requires reads { W.means.takes_reads table.old self.old.seat }
+        requires asks { ServesReads W.means table.old self.old }
         requires may { O.may_write out.old }
-        ensures agrees { ServiceAgrees (W.means.setup table.old) (W.means.service_view table.new self.new.seat) self.new }
-        ensures keeps { KeepsRest (W.means.setup table.old) self.old self.new }
-        ensures step { IsServiceStep W.means table.old self.old.seat table.new self.new.seat }
-        ensures reads { IfOk result (λ delivered. ReadsAll (W.means.setup table.old) self.old buffer limit
-            (W.means.service_view table.old self.old.seat) (W.means.service_view table.new self.new.seat)
-            (O.taken out.old) (O.taken out.new) delivered) }
+        ensures leaves { NotesOn W.means table.old self.old table.new self.new }
+        ensures reads { IfOk result (λ delivered. ReadsAll (W.means.setup table.old) self.old buffer limit delivered
+            (read_moment (W.means.service_view table.old self.old.seat) (O.taken out.old))
+            (read_moment (W.means.service_view table.new self.new.seat) (O.taken out.new))) }
         ensures fails { OnErr result (FailsAmong (W.means.setup table.old) self.old buffer limit
-            (W.means.service_view table.old self.old.seat) (W.means.service_view table.new self.new.seat)
-            (O.taken out.old) (O.taken out.new)) }
-        ensures told { (world : World) → W.means.told table.old ≡ Some world
-            → W.means.told table.new ≡ Some (serviced world (W.means.service_view table.new self.new.seat)) }
+            (read_moment (W.means.service_view table.old self.old.seat) (O.taken out.old))
+            (read_moment (W.means.service_view table.new self.new.seat) (O.taken out.new))) }
         ensures count { CountsFaults (O.faults out.old) (O.faults out.new) result }
         ensures goes_on { OnOk result (O.may_write out.new) }
     {

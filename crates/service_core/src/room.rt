@@ -1,10 +1,8 @@
 //! Room for the payload of one chunk.
-ghost use Rattle.std.specs.Prelude.{◌≡◌, ℕ, ◌<◌, ◌≤◌, Some, length, take, vec_len, IfOk};
+ghost use Rattle.std.specs.Prelude.{◌≡◌, ◌<◌, ◌≤◌, length, take, vec_len};
 ghost use Rattle.trace_base.specs.declared.limits.TheConstants.{MAX_PAGE_SIZE};
 ghost use Rattle.chunk_plain.specs.Setup.{spot};
-ghost use Rattle.chunk_plain.specs.World.{World};
-ghost use Rattle.chunk_plain.specs.Meaning.{IsServiceStep};
-ghost use Rattle.chunk_plain.specs.Words.{ShowsFound};
+ghost use Rattle.service_core.specs.Looking.{LoadsFound};
 
 use chunk_plain::Words;
 use std::alloc::{AllocError, Global};
@@ -30,10 +28,7 @@ fn load_front<W: Words>(
     requires size { size ≡ (spot (W.means.setup table.old) chunk).payload_size }
     requires fits { size ≤ length into.old }
     ensures long { length into.new ≡ length into.old }
-    ensures view { W.means.service_view table.new seat.new ≡ W.means.service_view table.old seat.old }
-    ensures found { ShowsFound (W.means.service_view table.old seat.old) chunk (take size into.new) }
-    ensures step { IsServiceStep W.means table.old seat.old table.new seat.new }
-    ensures told { (world : World) → W.means.told table.old ≡ Some world → W.means.told table.new ≡ Some world }
+    ensures loads { LoadsFound W.means chunk (take size into.new) table.old seat.old table.new seat.new }
 {
     table.load(seat, chunk, &mut into[..size as usize]);
 }
@@ -57,10 +52,7 @@ impl Room {
         requires chunk { chunk < length (W.means.setup table.old).spots }
         requires size { size ≡ (spot (W.means.setup table.old) chunk).payload_size }
         requires small { size < MAX_PAGE_SIZE }
-        ensures view { W.means.service_view table.new seat.new ≡ W.means.service_view table.old seat.old }
-        ensures found { ShowsFound (W.means.service_view table.old seat.old) chunk (take size self.new.bytes.items) }
-        ensures step { IsServiceStep W.means table.old seat.old table.new seat.new }
-        ensures told { (world : World) → W.means.told table.old ≡ Some world → W.means.told table.new ≡ Some world }
+        ensures { LoadsFound W.means chunk (take size self.new.bytes.items) table.old seat.old table.new seat.new }
     {
         load_front(table, seat, chunk, size, &mut self.bytes);
     }

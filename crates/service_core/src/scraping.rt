@@ -1,17 +1,16 @@
 //! Scraping: what is finished of the chunks that writers hold.
-ghost use Rattle.std.specs.Prelude.{◌≡◌, ℕ, ◌+◌, ◌-◌, ◌<◌, ◌≤◌, true, false, Some, [], ◌∷◌, length, IfSome, IfNone};
-ghost use Rattle.trace_base.specs.declared.limits.TheConstants.{MAX_FRAGMENTS, MAX_CHUNKS_PER_PAGE};
+ghost use Rattle.std.specs.Prelude.{◌≡◌, ℕ, ◌<◌, true, false, Some, [], ◌∷◌, length, IfSome, IfNone};
+ghost use Rattle.trace_base.specs.declared.limits.TheConstants.{MAX_CHUNKS_PER_PAGE};
 ghost use Rattle.page_geometry.specs.declared.chunk_state.ChunkState.TheVariants.{BeingWritten};
 ghost use Rattle.page_geometry.specs.PageBits.{HasState};
-ghost use Rattle.chunk_plain.specs.Setup.{producer_of, IsChunkOf, sequence_of, id_at};
+ghost use Rattle.chunk_plain.specs.Setup.{producer_of, IsChunkOf, sequence_of};
 ghost use Rattle.chunk_plain.specs.Views.{Partial, taken_of};
 ghost use Rattle.chunk_plain.specs.World.{World};
-ghost use Rattle.chunk_plain.specs.Steps.{serviced};
-ghost use Rattle.chunk_plain.specs.Meaning.{IsServiceStep};
-ghost use Rattle.service_core.specs.Agreement.{ServiceAgrees, KeepsRest, IsOpen, is_closed};
+ghost use Rattle.service_core.specs.Agreement.{IsOpen};
 ghost use Rattle.service_core.specs.Order.{IsFoundPart};
 ghost use Rattle.service_core.specs.Taking.{noted_more};
-ghost use Rattle.service_core.specs.Scraping.{IsPart, FitsWord, PartLooked, TakesPart, SeesNoPart, ScrapesOne, TakesAndScrapes, HoldsOwn, FindsNoPart, NotesPart, ScrapesWorld};
+ghost use Rattle.service_core.specs.Scraping.{IsPart, FitsWord, ScrapesOne, TakesAndScrapes, HoldsOwn, NotesPart, ScrapesWorld, IsLookedPart, PartTaken, NoPartTaken};
+ghost use Rattle.service_core.specs.Calls.{ServesAt, ServesWriter, ServesOn, NotesOn};
 
 use crate::routing::arrive_part_in;
 use crate::service::ServiceCore;
@@ -47,27 +46,15 @@ impl<S> ServiceCore<S> {
         header: ChunkHeader,
         finished: u16,
     )
-        requires serves { W.means.serves table.old self.old.seat }
-        requires agrees { ServiceAgrees (W.means.setup table.old) (W.means.service_view table.old self.old.seat) self.old }
-        requires place { place < length (W.means.setup table.old).writers }
+        requires writer { ServesWriter W.means table.old self.old place }
         requires chunk { IsChunkOf (W.means.setup table.old) (producer_of (W.means.setup table.old) place) chunk }
-        requires open { is_closed (W.means.setup table.old) self.old place ≡ false }
-        requires some { 0 < finished }
-        requires count { finished ≤ MAX_FRAGMENTS }
-        requires id { header.chunk_id ≡ id_at (W.means.setup table.old) place
-            (taken_of (W.means.service_view table.old self.old.seat) place).count }
-        requires looked { PartLooked (W.means.service_view table.old self.old.seat) chunk place
-            (taken_of (W.means.service_view table.old self.old.seat) place).count finished header.flags }
-        ensures agrees { ServiceAgrees (W.means.setup table.old) (W.means.service_view table.new self.new.seat) self.new }
-        ensures keeps { KeepsRest (W.means.setup table.old) self.old self.new }
-        ensures step { IsServiceStep W.means table.old self.old.seat table.new self.new.seat }
+        requires part { IsLookedPart (W.means.setup table.old) (W.means.service_view table.old self.old.seat) place chunk header finished }
+        ensures leaves { NotesOn W.means table.old self.old table.new self.new }
         ensures view { W.means.service_view table.new self.new.seat
             ≡ noted_more (W.means.service_view table.old self.old.seat)
             (Partial (sequence_of place) (taken_of (W.means.service_view table.old self.old.seat) place).count finished ∷ []) }
         ensures part { IsFoundPart (W.means.service_view table.new self.new.seat) (sequence_of place)
             (taken_of (W.means.service_view table.old self.old.seat) place).count finished }
-        ensures told { (world : World) → W.means.told table.old ≡ Some world
-            → W.means.told table.new ≡ Some (serviced world (W.means.service_view table.new self.new.seat)) }
     {
         let sequence = place as u32 + FIRST_SEQUENCE;
         let index = usize::from(self.writers[place].buffer) - 1;
@@ -99,24 +86,11 @@ impl<S> ServiceCore<S> {
         place: usize,
         chunk: u32,
     ) -> bool
-        requires serves { W.means.serves table.old self.old.seat }
-        requires agrees { ServiceAgrees (W.means.setup table.old) (W.means.service_view table.old self.old.seat) self.old }
-        requires place { place < length (W.means.setup table.old).writers }
+        requires writer { ServesWriter W.means table.old self.old place }
         requires chunk { IsChunkOf (W.means.setup table.old) (producer_of (W.means.setup table.old) place) chunk }
-        requires open { is_closed (W.means.setup table.old) self.old place ≡ false }
-        ensures agrees { ServiceAgrees (W.means.setup table.old) (W.means.service_view table.new self.new.seat) self.new }
-        ensures keeps { KeepsRest (W.means.setup table.old) self.old self.new }
-        ensures step { IsServiceStep W.means table.old self.old.seat table.new self.new.seat }
-        ensures part { result ≡ true → TakesPart (W.means.setup table.old) place
-            (W.means.service_view table.old self.old.seat) (W.means.service_view table.new self.new.seat) }
-        ensures none { result ≡ false → SeesNoPart (W.means.setup table.old) place chunk
-            (W.means.service_view table.old self.old.seat) (W.means.service_view table.new self.new.seat) }
-        ensures told_part { result ≡ true → (world : World) → W.means.told table.old ≡ Some world
-            → NotesPart place world (W.means.told table.new)
-            (W.means.service_view table.old self.old.seat) (W.means.service_view table.new self.new.seat) }
-        ensures told_none { result ≡ false → (world : World) → W.means.told table.old ≡ Some world
-            → FindsNoPart place (taken_of (W.means.service_view table.old self.old.seat) place).count chunk world
-            (W.means.told table.new) (W.means.service_view table.new self.new.seat) }
+        ensures leaves { ServesOn W.means table.old self.old table.new self.new }
+        ensures part { result ≡ true → PartTaken W.means place table.old self.old.seat table.new self.new.seat }
+        ensures none { result ≡ false → NoPartTaken W.means place chunk table.old self.old.seat table.new self.new.seat }
     {
         let seen = table.look(&mut self.seat, chunk);
         let at = self.layout.spot(chunk).place;
@@ -134,13 +108,8 @@ impl<S> ServiceCore<S> {
 impl<S> ServiceCore<S> {
     /// Scrapes the next chunk of the writer at this place, where it holds one.
     fn scrape_writer<W: Words<Service = S>>(&mut self, table: &mut W, place: usize)
-        requires serves { W.means.serves table.old self.old.seat }
-        requires agrees { ServiceAgrees (W.means.setup table.old) (W.means.service_view table.old self.old.seat) self.old }
-        requires place { place < length (W.means.setup table.old).writers }
-        requires open { is_closed (W.means.setup table.old) self.old place ≡ false }
-        ensures agrees { ServiceAgrees (W.means.setup table.old) (W.means.service_view table.new self.new.seat) self.new }
-        ensures keeps { KeepsRest (W.means.setup table.old) self.old self.new }
-        ensures step { IsServiceStep W.means table.old self.old.seat table.new self.new.seat }
+        requires writer { ServesWriter W.means table.old self.old place }
+        ensures leaves { ServesOn W.means table.old self.old table.new self.new }
         ensures scrapes { ScrapesOne (W.means.setup table.old) place
             (W.means.service_view table.old self.old.seat) (W.means.service_view table.new self.new.seat) }
         ensures told { (world : World) → W.means.told table.old ≡ Some world → HoldsOwn (W.means.setup table.old) place world
@@ -159,12 +128,9 @@ impl<S> ServiceCore<S> {
     /// them, in rising number, the finished fragments of the chunk that it holds. A writer whose held
     /// chunk isn't its next one is passed over. Answers how many chunks it took.
     pub fn scrape<W: Words<Service = S>>(&mut self, table: &mut W, producer: u16) -> u64
-        requires serves { W.means.serves table.old self.old.seat }
-        requires agrees { ServiceAgrees (W.means.setup table.old) (W.means.service_view table.old self.old.seat) self.old }
+        requires serves { ServesAt W.means table.old self.old }
         requires open { IsOpen (W.means.setup table.old) self.old producer }
-        ensures agrees { ServiceAgrees (W.means.setup table.old) (W.means.service_view table.new self.new.seat) self.new }
-        ensures keeps { KeepsRest (W.means.setup table.old) self.old self.new }
-        ensures step { IsServiceStep W.means table.old self.old.seat table.new self.new.seat }
+        ensures leaves { ServesOn W.means table.old self.old table.new self.new }
         ensures scrapes { TakesAndScrapes (W.means.setup table.old) producer result
             (W.means.service_view table.old self.old.seat) (W.means.service_view table.new self.new.seat) }
         ensures told { (world : World) → W.means.told table.old ≡ Some world

@@ -1,13 +1,9 @@
 //! The service over any table of chunks.
-ghost use Rattle.std.specs.Prelude.{◌≡◌, false, ℕ, ◌+◌, ◌-◌, ◌<◌, ◌≤◌, All, length, IfOk, slice_index_or};
-ghost use Rattle.trace_base.specs.declared.limits.TheConstants.{MAX_BUFFERS, MAX_PRODUCERS, MAX_PAGES, FIRST_SEQUENCE};
+ghost use Rattle.std.specs.Prelude.{◌≡◌, ◌≤◌, All, length, IfOk};
+ghost use Rattle.trace_base.specs.declared.limits.TheConstants.{MAX_BUFFERS, MAX_PRODUCERS, MAX_PAGES};
 ghost use Rattle.chunk_plain.specs.Laying.{setup_of};
-ghost use Rattle.chunk_plain.specs.Setup.{Setup};
-ghost use Rattle.chunk_plain.specs.Views.{ServiceView, taken_of};
-ghost use Rattle.session_core.specs.Sessions.{new_session, moved, configured};
-ghost use Rattle.session_core.specs.declared.answers.SessionState.TheVariants.{Started};
-ghost use Rattle.service_core.specs.Agreement.{ServiceAgrees, IsRouted, is_closed};
-ghost use Rattle.service_core.specs.Making.{HaveSizes, RecordsFit, IsUnused};
+ghost use Rattle.service_core.specs.Agreement.{IsRouted};
+ghost use Rattle.service_core.specs.Making.{HaveSizes, RecordsFit, IsNewService};
 
 use crate::making::make_buffers;
 use crate::room::Room;
@@ -52,13 +48,7 @@ impl<S: Drop> ServiceCore<S> {
         requires pages { All (λ producer. producer.pages ≤ MAX_PAGES) producers.now }
         requires routed { IsRouted (setup_of producers.now writers.now) (length buffers.now) }
         requires fits { RecordsFit (setup_of producers.now writers.now) buffers.now }
-        ensures seat { IfOk result (λ core. core.seat ≡ seat) }
-        ensures specs { IfOk result (λ core. core.specs.items ≡ buffers.now) }
-        ensures agrees { IfOk result (λ core. (view : ServiceView) → IsUnused (length writers.now) view
-            → ServiceAgrees (setup_of producers.now writers.now) view core) }
-        ensures open { IfOk result (λ core. (place : ℕ) → place < length writers.now
-            → is_closed (setup_of producers.now writers.now) core place ≡ false) }
-        ensures session { IfOk result (λ core. core.session ≡ moved Started (configured (length writers.now) new_session)) }
+        ensures { IfOk result (IsNewService (setup_of producers.now writers.now) buffers.now seat) }
     {
         let layout = Layout::make(alloc, producers, writers)?;
         let made = make_buffers(alloc, buffers, producers, writers)?;

@@ -3,7 +3,6 @@ use Rattle.std.proofs.Common.{◌≡◌, ◌∙◌, ◌⊎◌, inl, inr, ℕ, Re
 use Rattle.std.specs.List.{All, flat_map}
 use Rattle.std.proofs.lemmas.List.{append_cancel_left}
 use Rattle.atomic_table.specs.Seated.{TableId}
-use Rattle.byte_io.specs.Bytes.{Intake}
 use Rattle.byte_io.specs.declared.put.WriteFault.{WriteFault}
 use Rattle.trace_model.specs.Delivery.{Delivered}
 use Rattle.trace_model.specs.History as model
@@ -22,7 +21,7 @@ use Rattle.chunk_words.specs.Sits.{Attends, Passes, known_by_pass, known_by_serv
 use Rattle.chunk_words.proofs.Passing.{goes_same, goes_further}
 use Rattle.service_core.specs.declared.service.ServiceCore.{ServiceCore}
 use Rattle.service_core.specs.Agreement.{first_of}
-use Rattle.service_core.specs.Reading.{noted_read, reads_in, NotesReads, ReadsAll, FailsAmong}
+use Rattle.service_core.specs.Reading.{noted_read, reads_in, NotesReads, ReadMoment, ReadsAll, FailsAmong}
 use Rattle.service_core.proofs.QuietLemmas.{adds_quiet}
 use Rattle.thread_service.specs.Passing.{KnowsReads, NoneRead, SomeRead, PassesOn}
 use Rattle.thread_service.specs.Reading.{GoesUnread, records_of, IsKnownWhole, PassReads}
@@ -118,11 +117,11 @@ since_back passed before pass view was from passed_is before_is since =
     subst (λ (p : ServiceView). Since p from pass view) (sym passed_is) (subst (λ (b : ServiceView). Since passed b pass view) (sym before_is) since)
 
 -- some reads were noted, whether a write failed or not
-pub some_noted : {S : Type 0} (setup : Setup) (core : ServiceCore S) (number limit : ℕ) (old new : ServiceView) (before after : Intake) (result : Result ℕ WriteFault)
-    → IfOk result (λ delivered. ReadsAll setup core number limit old new before after delivered) → OnErr result (FailsAmong setup core number limit old new before after)
-    → (events : List model.Event) × NotesReads setup core events old new
-some_noted setup core number limit old new before after (Ok delivered) reads fails = (reads_in setup core.buffers.items number limit, reads.notes)
-some_noted setup core number limit old new before after (Err fault) reads fails =
+pub some_noted : {S : Type 0} (setup : Setup) (core : ServiceCore S) (number limit : ℕ) (before after : ReadMoment) (result : Result ℕ WriteFault)
+    → IfOk result (λ delivered. ReadsAll setup core number limit delivered before after) → OnErr result (FailsAmong setup core number limit before after)
+    → (events : List model.Event) × NotesReads setup core events before.view after.view
+some_noted setup core number limit before after (Ok delivered) reads fails = (reads_in setup core.buffers.items number limit, reads.notes)
+some_noted setup core number limit before after (Err fault) reads fails =
     (fails.firsts ++ model.Read fails.sequence fails.count ∷ [], fails.notes)
 
 module _ {S : Type 0} (setup : Setup) (core : ServiceCore S) (events : List model.Event) (passed before pass view : ServiceView) (notes_ : NotesReads setup core events before view) where

@@ -22,7 +22,8 @@ use Rattle.service_core.specs.Order.{beginning}
 use Rattle.service_core.proofs.AgreeLemmas.{agrees_kept}
 use Rattle.service_core.proofs.HistoryLemmas.{Grows, all_known_grow, history_stays}
 use Rattle.service_core.proofs.OrderLemmas.{lead_grows}
-use Rattle.thread_service.specs.Serving.{Serves}
+use Rattle.thread_service.specs.declared.service.Service.{Service}
+use Rattle.thread_service.specs.Serving.{core_of, view_in, Serves, ServesStill, HasMemory}
 
 pub attends_back : (table behind : HostTable) (seat : ServiceSeat) → identity_of behind ≡ identity_of table → setup_in behind ≡ setup_in table → Attends behind seat → Attends table seat
 attends_back table behind seat same setup attends = record {
@@ -42,14 +43,26 @@ pub counts_on : (old done : ServiceCore ServiceSeat) → done.session.requests �
     → (known_by_service done.seat).letters ≡ (known_by_service old.seat).letters → Counts old → Counts done
 counts_on old done same letters counts = same ∙ counts ∙ sym (ap asked_in letters)
 
--- the service is one of the lent table again
-pub serves_back : (id : TableId) (desk : Desk) (table behind : HostTable) (core : ServiceCore ServiceSeat) → identity_of table ≡ id
+-- before any call it is as it is, and calls one after another leave what each leaves
+pub stays_begin : {table : HostTable} {service : Service} → Serves table service → ServesStill table service service
+stays_begin serves = record { serves = serves; desk = refl; letters = refl }
+
+pub stays_on : {table : HostTable} {old mid new : Service} → ServesStill table old mid → ServesStill table mid new → ServesStill table old new
+stays_on one two = record { serves = two.serves; desk = two.desk ∙ one.desk; letters = two.letters ∙ one.letters }
+
+-- behind a step of its seat at the lent table it is still one of the table
+pub still_serves : (id : TableId) (desk : Desk) (table behind : HostTable) (old : Service) (core : ServiceCore ServiceSeat) → HasMemory id desk table old
     → Remembers behind desk core.seat × (identity_of behind ≡ id) → setup_in behind ≡ setup_in table
-    → ServiceAgrees (setup_in table) (known_by_service core.seat) core → Counts core → Serves table (record { core = core })
-serves_back id desk table behind core is stays setup agrees counts = record {
-  attends = attends_back table behind core.seat (stays.1 ∙ sym is) setup stays.0.attends;
-  agrees = agrees;
-  asked = counts;
+    → ServiceAgrees (setup_in table) (known_by_service core.seat) core → core.session ≡ (core_of old).session
+    → (known_by_service core.seat).letters ≡ (view_in old).letters → Serves table old → ServesStill table old (record { core = core })
+still_serves id desk table behind old core memory stays setup agrees session letters serves = record {
+  serves = record {
+    attends = attends_back table behind core.seat (stays.1 ∙ sym memory.table_is) setup stays.0.attends;
+    agrees = agrees;
+    asked = counts_on (core_of old) core (ap (λ (s : SessionValue). s.requests) session) letters serves.asked;
+  };
+  desk = stays.0.desk_is ∙ sym memory.desk_is;
+  letters = letters;
 }
 
 -- what a service agrees with is its view, whatever else its seat knows

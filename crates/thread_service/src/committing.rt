@@ -1,19 +1,18 @@
 //! Images that come by a commit.
-ghost use Rattle.std.specs.Prelude.{◌≡◌, ◌≢◌, ℕ, ◌+◌, ◌-◌, ◌<◌, ◌≤◌, false, length, map, IsOkAnd, Err};
-ghost use Rattle.trace_base.specs.declared.limits.TheConstants.{MAX_FRAGMENTS, FIRST_SEQUENCE};
-ghost use Rattle.page_geometry.specs.declared.chunk_header.TheConstants.{MAX_FLAGS};
+ghost use Rattle.std.specs.Prelude.{◌≡◌, ◌≢◌, ◌-◌, map, IsOkAnd, Err};
+ghost use Rattle.trace_base.specs.declared.limits.TheConstants.{FIRST_SEQUENCE};
 ghost use Rattle.chunk_image.specs.Values.{image_value};
 ghost use Rattle.commit_body.specs.Patches.{patch_value};
 ghost use Rattle.trace_model.specs.Arrivals.{image_arrival_of};
 ghost use Rattle.trace_model.specs.Ids.{placed_image, placed_patches};
 ghost use Rattle.trace_buffer.specs.Answers.{arrived_value};
-ghost use Rattle.chunk_plain.specs.Setup.{size_of, producer_of, from_of};
+ghost use Rattle.chunk_plain.specs.Setup.{from_of};
 ghost use Rattle.chunk_plain.specs.Steps.{notes_commit};
-ghost use Rattle.chunk_words.specs.Named.{identity_of};
 ghost use Rattle.chunk_words.specs.Sits.{setup_in};
-ghost use Rattle.service_core.specs.Agreement.{KeepsRest, is_closed, buffer_of};
+ghost use Rattle.service_core.specs.Agreement.{KeepsRest, buffer_of};
 ghost use Rattle.service_core.specs.Routing.{buffer_at};
-ghost use Rattle.thread_service.specs.Serving.{core_of, view_in, desk_in, Serves};
+ghost use Rattle.thread_service.specs.Serving.{core_of, view_in, Serves, ServesStill, HasMemory};
+ghost use Rattle.service_core.specs.Calls.{CanCome};
 
 use crate::service::Service;
 use chunk_image::Image;
@@ -35,14 +34,8 @@ impl Service {
         patches: &[Patch],
     ) -> Result<Arrived, WrongTarget>
         requires serves { Serves table.now self.old }
-        requires least { FIRST_SEQUENCE ≤ image.now.sequence }
-        requires most { image.now.sequence < FIRST_SEQUENCE + length (setup_in table.now).writers }
-        requires open { is_closed (setup_in table.now) (core_of self.old) (image.now.sequence - FIRST_SEQUENCE) ≡ false }
-        requires size { length image.now.payload.now
-            ≡ size_of (setup_in table.now) (producer_of (setup_in table.now) (image.now.sequence - FIRST_SEQUENCE)) }
-        requires count { image.now.count ≤ MAX_FRAGMENTS }
-        requires flags { image.now.flags ≤ MAX_FLAGS }
-        ensures serves { Serves table.now self.new }
+        requires image { CanCome (setup_in table.now) (core_of self.old) (image_value image.now) }
+        ensures stays { ServesStill table.now self.old self.new }
         ensures keeps { KeepsRest (setup_in table.now) (core_of self.old) (core_of self.new) }
         ensures wrong { buffer_of (setup_in table.now) (image.now.sequence - FIRST_SEQUENCE) ≢ target
             → (result ≡ Err (record { buffer = buffer_of (setup_in table.now) (image.now.sequence - FIRST_SEQUENCE) }))
@@ -57,8 +50,6 @@ impl Service {
               image = placed_image from (image_value image.now);
               patches = placed_patches from (map patch_value patches.now);
             }) }
-        ensures desk { desk_in self.new ≡ desk_in self.old }
-        ensures letters { (view_in self.new).letters ≡ (view_in self.old).letters }
     {
         self.commit_at::<Brand>(table, target, image, patches)
     }
@@ -71,17 +62,10 @@ impl Service {
         image: &Image<'_>,
         patches: &[Patch],
     ) -> Result<Arrived, WrongTarget>
-        requires table { identity_of table.now ≡ N.table }
-        requires desk { desk_in self.old ≡ N.desk }
+        requires memory { HasMemory N.table N.desk table.now self.old }
         requires serves { Serves table.now self.old }
-        requires least { FIRST_SEQUENCE ≤ image.now.sequence }
-        requires most { image.now.sequence < FIRST_SEQUENCE + length (setup_in table.now).writers }
-        requires open { is_closed (setup_in table.now) (core_of self.old) (image.now.sequence - FIRST_SEQUENCE) ≡ false }
-        requires size { length image.now.payload.now
-            ≡ size_of (setup_in table.now) (producer_of (setup_in table.now) (image.now.sequence - FIRST_SEQUENCE)) }
-        requires count { image.now.count ≤ MAX_FRAGMENTS }
-        requires flags { image.now.flags ≤ MAX_FLAGS }
-        ensures serves { Serves table.now self.new }
+        requires image { CanCome (setup_in table.now) (core_of self.old) (image_value image.now) }
+        ensures stays { ServesStill table.now self.old self.new }
         ensures keeps { KeepsRest (setup_in table.now) (core_of self.old) (core_of self.new) }
         ensures wrong { buffer_of (setup_in table.now) (image.now.sequence - FIRST_SEQUENCE) ≢ target
             → (result ≡ Err (record { buffer = buffer_of (setup_in table.now) (image.now.sequence - FIRST_SEQUENCE) }))
@@ -96,8 +80,6 @@ impl Service {
               image = placed_image from (image_value image.now);
               patches = placed_patches from (map patch_value patches.now);
             }) }
-        ensures desk { desk_in self.new ≡ N.desk }
-        ensures letters { (view_in self.new).letters ≡ (view_in self.old).letters }
     {
         let mut lent = Remembering::<N> {
             table,

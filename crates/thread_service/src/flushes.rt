@@ -1,20 +1,18 @@
 //! Flush requests and their answers, and the end of the session. A request is one word of the table, and
 //! each writer's last answer another.
-ghost use Rattle.std.specs.Prelude.{◌≡◌, ℕ, ◌+◌, ◌-◌, ◌<◌, ◌≤◌, ◌↔◌, [], IsTrue, length};
+ghost use Rattle.std.specs.Prelude.{◌≡◌, ◌+◌, ◌-◌, ◌<◌, ◌≤◌, ◌↔◌, IsTrue, length};
 ghost use Rattle.session_core.specs.States.{Flush, Stop, refusal_in, answered_as};
-ghost use Rattle.session_core.specs.Sessions.{left_as, moved, requested, acknowledge_refusal, with_answer};
+ghost use Rattle.session_core.specs.Sessions.{left_as, moved, acknowledge_refusal, with_answer};
 ghost use Rattle.session_core.specs.declared.answers.SessionState.TheVariants.{Stopped};
-ghost use Rattle.chunk_plain.specs.Letters.{hears_answer};
-ghost use Rattle.chunk_plain.specs.Views.{At, asked_in};
+ghost use Rattle.chunk_plain.specs.Views.{asked_in};
 ghost use Rattle.chunk_words.specs.declared.host.HostTable.{HostTable};
 ghost use Rattle.chunk_words.specs.GoesOn.{GoesOn};
-ghost use Rattle.chunk_words.specs.Knows.{Away, Tale, Unmade, with_stage};
-ghost use Rattle.chunk_words.specs.Moves.{IsLastAnswer, IsNoOlder};
+ghost use Rattle.chunk_words.specs.Knows.{Away, Unmade, with_stage};
 ghost use Rattle.chunk_words.specs.Sits.{Passes, known_by_pass, setup_in};
 ghost use Rattle.service_core.specs.Agreement.{KeepsTaking, IsAnsweredBy};
-ghost use Rattle.thread_service.specs.Reading.{IsKnownWhole, PassReads};
-ghost use Rattle.thread_service.specs.Requesting.{PassRequests, Requests};
-ghost use Rattle.thread_service.specs.Serving.{core_of, view_in, desk_in, Serves, IsServing, IsOnlySeat};
+ghost use Rattle.thread_service.specs.Requesting.{Requests, MakesRequest, PassesRequest, HearsAnswer};
+ghost use Rattle.thread_service.specs.Serving.{core_of, view_in, desk_in, Serves, IsServing, IsOnlySeat, KnowsSame};
+ghost use Rattle.thread_service.specs.Reading.{ServesPassing};
 
 use crate::service::Service;
 use chunk_words::{HostTable, ReadPass, Shared};
@@ -28,11 +26,8 @@ impl Service {
         requires none_made { (desk_in self.old).stage ≡ Unmade }
         requires fewer { (core_of self.old).session.requests < u32.MAX }
         ensures serves { Serves table.now self.new }
-        ensures answer { result
-            ≡ answered_as (refusal_in Flush (core_of self.old).session.state) ((core_of self.old).session.requests + 1) }
-        ensures after { (core_of self.new).session
-            ≡ left_as (refusal_in Flush (core_of self.old).session.state) (core_of self.old).session
-            (requested (core_of self.old).session) }
+        ensures request { MakesRequest (core_of self.old).session (core_of self.new).session
+            ((core_of self.old).session.requests + 1) result }
         ensures view { Requests (refusal_in Flush (core_of self.old).session.state) (view_in self.old) (view_in self.new) }
         ensures desk { desk_in self.new ≡ desk_in self.old }
         ensures keeps { KeepsTaking (record (core_of self.old) { seat = (core_of self.new).seat }) (core_of self.new) }
@@ -50,23 +45,12 @@ impl Service {
         table: &HostTable,
         pass: &mut ReadPass,
     ) -> Result<u32, SessionFault>
-        requires serves { Serves table.now self.old }
-        requires pass { Passes table.now pass.old }
-        requires known { IsKnownWhole (known_by_pass pass.old) }
+        requires serves { ServesPassing table.now self.old pass.old }
         requires fewer { asked_in (known_by_pass pass.old).letters < u32.MAX }
-        ensures serves { Serves table.now self.new }
-        ensures pass { Passes table.now pass.new }
-        ensures known { IsKnownWhole (known_by_pass pass.new) }
-        ensures answer { result ≡ answered_as (refusal_in Flush (core_of self.old).session.state)
-            (asked_in (known_by_pass pass.old).letters + 1) }
-        ensures after { (core_of self.new).session
-            ≡ left_as (refusal_in Flush (core_of self.old).session.state) (core_of self.old).session
-            (requested (core_of self.old).session) }
-        ensures goes_on { GoesOn (known_by_pass pass.old) (view_in self.old) }
-        ensures view { Requests (refusal_in Flush (core_of self.old).session.state) (view_in self.old) (view_in self.new) }
-        ensures knows { PassRequests (refusal_in Flush (core_of self.old).session.state) (known_by_pass pass.old)
-            (known_by_pass pass.new) (view_in self.new) }
-        ensures passes { PassReads (setup_in table.now) (core_of self.old) [] (known_by_pass pass.old) (known_by_pass pass.new) }
+        ensures serves { ServesPassing table.now self.new pass.new }
+        ensures request { MakesRequest (core_of self.old).session (core_of self.new).session
+            (asked_in (known_by_pass pass.old).letters + 1) result }
+        ensures passes { PassesRequest table.now self.old self.new pass.old pass.new }
         ensures desk { with_stage (desk_in self.new) Away ≡ with_stage (desk_in self.old) Away }
         ensures keeps { KeepsTaking (record (core_of self.old) { seat = (core_of self.new).seat }) (core_of self.new) }
     {
@@ -85,12 +69,7 @@ impl Service {
         requires least { 1 ≤ writer }
         requires most { writer ≤ length (setup_in table.now).writers }
         ensures serves { Serves table.now self.new }
-        ensures view { view_in self.new ≡ hears_answer (view_in self.old) (writer - 1) result.0 result.1 }
-        ensures asked { result.0 ≤ (core_of self.old).session.requests }
-        ensures told { (i : ℕ) (tale : Tale) → At (desk_in self.old).told i tale → tale.place ≡ writer - 1 → tale.flush ≤ result.0 }
-        ensures none { result.0 ≡ 0 → result.1 ≡ 0 }
-        ensures last { IsLastAnswer (view_in self.new) (writer - 1) result.0 result.1 }
-        ensures heard { IsNoOlder (view_in self.old) (writer - 1) result.0 result.1 }
+        ensures answer { HearsAnswer (writer - 1) result.0 result.1 self.old self.new }
         ensures desk { desk_in self.new ≡ desk_in self.old }
         ensures only { IsOnlySeat (core_of self.old) (core_of self.new) }
     {
@@ -105,10 +84,9 @@ impl Service {
         ensures serves { Serves table.now self.new }
         ensures pass { Passes table.now pass.new }
         ensures goes_on { GoesOn (known_by_pass pass.old) (view_in self.old) }
-        ensures view { view_in self.new ≡ view_in self.old }
+        ensures same { KnowsSame self.old self.new }
         ensures known { known_by_pass pass.new ≡ known_by_pass pass.old }
         ensures desk { with_stage (desk_in self.new) Away ≡ with_stage (desk_in self.old) Away }
-        ensures only { IsOnlySeat (core_of self.old) (core_of self.new) }
     {
         table.compare(&mut self.core.seat, pass);
     }

@@ -1,16 +1,11 @@
 //! Reading a buffer with the reading pass.
-ghost use Rattle.std.specs.Prelude.{◌≡◌, List, ◌++◌, IfOk, OnErr, OnOk};
-ghost use Rattle.byte_io.specs.Bytes.{CountsFaults, after_told};
-ghost use Rattle.trace_model.specs.Delivery.{Delivered, trace_of};
+ghost use Rattle.std.specs.Prelude.{List, IfOk, OnErr, OnOk};
+ghost use Rattle.byte_io.specs.Bytes.{CountsFaults};
 ghost use Rattle.trace_model.specs.History as model;
-ghost use Rattle.chunk_plain.specs.Views.{asked_in};
-ghost use Rattle.chunk_words.specs.Knows.{Away, with_stage};
-ghost use Rattle.chunk_words.specs.Named.{identity_of};
-ghost use Rattle.chunk_words.specs.Sits.{Passes, setup_in, known_by_pass};
-ghost use Rattle.service_core.specs.Agreement.{KeepsRest};
-ghost use Rattle.service_core.specs.Reading.{NotesReads, ReadsAll, FailsAmong};
-ghost use Rattle.thread_service.specs.Reading.{IsKnownWhole, PassReads, records_of};
-ghost use Rattle.thread_service.specs.Serving.{core_of, view_in, desk_in, Serves};
+ghost use Rattle.chunk_words.specs.Sits.{setup_in, known_by_pass};
+ghost use Rattle.service_core.specs.Reading.{NotesReads, ReadsAll, FailsAmong, read_moment};
+ghost use Rattle.thread_service.specs.Reading.{PassReads, ServesPassing, StartsFrom, LeavesPassing};
+ghost use Rattle.thread_service.specs.Serving.{core_of, view_in};
 
 use crate::passing::{Passing, Start};
 use crate::service::Service;
@@ -32,21 +27,15 @@ impl Service {
         limit: u64,
         out: &mut O,
     ) -> Result<u64, WriteFault>
-        requires serves { Serves table.now self.old }
-        requires pass { Passes table.now pass.old }
-        requires known { IsKnownWhole (known_by_pass pass.old) }
+        requires serves { ServesPassing table.now self.old pass.old }
         requires may { O.may_write out.old }
-        ensures serves { Serves table.now self.new }
-        ensures pass { Passes table.now pass.new }
-        ensures known { IsKnownWhole (known_by_pass pass.new) }
-        ensures desk { with_stage (desk_in self.new) Away ≡ with_stage (desk_in self.old) Away }
-        ensures letters { (view_in self.new).letters ≡ (view_in self.old).letters }
-        ensures asked { asked_in (known_by_pass pass.new).letters ≡ asked_in (known_by_pass pass.old).letters }
-        ensures keeps { KeepsRest (setup_in table.now) (core_of self.old) (core_of self.new) }
-        ensures reads { IfOk result (λ delivered. ReadsAll (setup_in table.now) (core_of self.old) buffer limit
-            (view_in self.old) (view_in self.new) (O.taken out.old) (O.taken out.new) delivered) }
+        ensures leaves { LeavesPassing table.now self.old pass.old self.new pass.new }
+        ensures reads { IfOk result (λ delivered. ReadsAll (setup_in table.now) (core_of self.old) buffer limit delivered
+            (read_moment (view_in self.old) (O.taken out.old))
+            (read_moment (view_in self.new) (O.taken out.new))) }
         ensures fails { OnErr result (FailsAmong (setup_in table.now) (core_of self.old) buffer limit
-            (view_in self.old) (view_in self.new) (O.taken out.old) (O.taken out.new)) }
+            (read_moment (view_in self.old) (O.taken out.old))
+            (read_moment (view_in self.new) (O.taken out.new))) }
         ensures passes { (events : List model.Event)
             → NotesReads (setup_in table.now) (core_of self.old) events (view_in self.old) (view_in self.new)
             → PassReads (setup_in table.now) (core_of self.old) events (known_by_pass pass.old) (known_by_pass pass.new) }
@@ -65,25 +54,15 @@ impl Service {
         limit: u64,
         out: &mut O,
     ) -> Result<u64, WriteFault>
-        requires table { identity_of table.now ≡ N.table }
-        requires passed { known_by_pass pass.old ≡ N.passed }
-        requires view { view_in self.old ≡ N.view }
-        requires desk { desk_in self.old ≡ N.desk }
-        requires serves { Serves table.now self.old }
-        requires pass { Passes table.now pass.old }
-        requires known { IsKnownWhole (known_by_pass pass.old) }
+        requires starts { StartsFrom N.table N.passed N.view N.desk table.now self.old pass.old }
         requires may { O.may_write out.old }
-        ensures serves { Serves table.now self.new }
-        ensures pass { Passes table.now pass.new }
-        ensures known { IsKnownWhole (known_by_pass pass.new) }
-        ensures desk { with_stage (desk_in self.new) Away ≡ with_stage N.desk Away }
-        ensures letters { (view_in self.new).letters ≡ (view_in self.old).letters }
-        ensures asked { asked_in (known_by_pass pass.new).letters ≡ asked_in (known_by_pass pass.old).letters }
-        ensures keeps { KeepsRest (setup_in table.now) (core_of self.old) (core_of self.new) }
-        ensures reads { IfOk result (λ delivered. ReadsAll (setup_in table.now) (core_of self.old) buffer limit
-            (view_in self.old) (view_in self.new) (O.taken out.old) (O.taken out.new) delivered) }
+        ensures leaves { LeavesPassing table.now self.old pass.old self.new pass.new }
+        ensures reads { IfOk result (λ delivered. ReadsAll (setup_in table.now) (core_of self.old) buffer limit delivered
+            (read_moment (view_in self.old) (O.taken out.old))
+            (read_moment (view_in self.new) (O.taken out.new))) }
         ensures fails { OnErr result (FailsAmong (setup_in table.now) (core_of self.old) buffer limit
-            (view_in self.old) (view_in self.new) (O.taken out.old) (O.taken out.new)) }
+            (read_moment (view_in self.old) (O.taken out.old))
+            (read_moment (view_in self.new) (O.taken out.new))) }
         ensures passes { (events : List model.Event)
             → NotesReads (setup_in table.now) (core_of self.old) events (view_in self.old) (view_in self.new)
             → PassReads (setup_in table.now) (core_of self.old) events (known_by_pass pass.old) (known_by_pass pass.new) }

@@ -1,19 +1,15 @@
 //! The service of a table that threads share, and what it takes from there.
-ghost use Rattle.std.specs.Prelude.{◌≡◌, ℕ, ◌<◌, ◌≤◌, false, All, length, IfOk};
+ghost use Rattle.std.specs.Prelude.{◌≡◌, ◌≤◌, All, length, IfOk};
 ghost use Rattle.trace_base.specs.declared.limits.TheConstants.{MAX_BUFFERS, MAX_PRODUCERS, MAX_PAGES};
 ghost use Rattle.chunk_plain.specs.Laying.{setup_of};
-ghost use Rattle.chunk_plain.specs.Views.{asked_in};
 ghost use Rattle.chunk_words.specs.declared.host.HostTable.{HostTable};
-ghost use Rattle.chunk_words.specs.Named.{identity_of};
-ghost use Rattle.chunk_words.specs.Sits.{Attends, setup_in, known_by_service};
-ghost use Rattle.session_core.specs.Sessions.{new_session, moved, configured};
-ghost use Rattle.session_core.specs.declared.answers.SessionState.TheVariants.{Started};
-ghost use Rattle.service_core.specs.Agreement.{IsRouted, IsOpen, KeepsRest, is_closed};
+ghost use Rattle.chunk_words.specs.Sits.{setup_in};
+ghost use Rattle.service_core.specs.Agreement.{IsRouted, IsOpen, KeepsRest};
 ghost use Rattle.service_core.specs.Closing.{ClosesAll, TakesAndCloses};
-ghost use Rattle.service_core.specs.Making.{HaveSizes, RecordsFit, IsUnused};
+ghost use Rattle.service_core.specs.Making.{HaveSizes, RecordsFit};
 ghost use Rattle.service_core.specs.Scraping.{TakesAndScrapes};
 ghost use Rattle.service_core.specs.Taking.{Takes, places_of};
-ghost use Rattle.thread_service.specs.Serving.{core_of, view_in, desk_in, Serves};
+ghost use Rattle.thread_service.specs.Serving.{core_of, view_in, Serves, ServesStill, HasMemory, IsNewFor};
 
 use chunk_plain::ProducerSpec;
 use chunk_words::{HostTable, Memory, Remembering, ServiceSeat};
@@ -47,16 +43,7 @@ impl Service {
         requires pages { All (λ producer. producer.pages ≤ MAX_PAGES) producers.now }
         requires routed { IsRouted (setup_of producers.now writers.now) (length buffers.now) }
         requires fits { RecordsFit (setup_of producers.now writers.now) buffers.now }
-        ensures seat { IfOk result (λ service. (core_of service).seat ≡ seat) }
-        ensures specs { IfOk result (λ service. (core_of service).specs.items ≡ buffers.now) }
-        ensures serves { IfOk result (λ service. (table : HostTable) → Attends table seat
-            → setup_in table ≡ setup_of producers.now writers.now
-            → IsUnused (length writers.now) (known_by_service seat) → asked_in (known_by_service seat).letters ≡ 0
-            → Serves table service) }
-        ensures open { IfOk result (λ service. (place : ℕ) → place < length writers.now
-            → is_closed (setup_of producers.now writers.now) (core_of service) place ≡ false) }
-        ensures session { IfOk result (λ service. (core_of service).session
-            ≡ moved Started (configured (length writers.now) new_session)) }
+        ensures { IfOk result (IsNewFor (setup_of producers.now writers.now) buffers.now seat) }
     {
         let core = ServiceCore::make(alloc, buffers, producers, writers, seat)?;
         Ok(Service { core })
@@ -66,12 +53,10 @@ impl Service {
     pub fn collect(&mut self, table: &HostTable, producer: u16) -> u64
         requires serves { Serves table.now self.old }
         requires open { IsOpen (setup_in table.now) (core_of self.old) producer }
-        ensures serves { Serves table.now self.new }
+        ensures stays { ServesStill table.now self.old self.new }
         ensures keeps { KeepsRest (setup_in table.now) (core_of self.old) (core_of self.new) }
         ensures takes { Takes (setup_in table.now) (places_of producer 0 (setup_in table.now).writers) result
             (view_in self.old) (view_in self.new) }
-        ensures desk { desk_in self.new ≡ desk_in self.old }
-        ensures letters { (view_in self.new).letters ≡ (view_in self.old).letters }
     {
         self.collect_at::<Brand>(table, producer)
     }
@@ -81,11 +66,9 @@ impl Service {
     pub fn scrape(&mut self, table: &HostTable, producer: u16) -> u64
         requires serves { Serves table.now self.old }
         requires open { IsOpen (setup_in table.now) (core_of self.old) producer }
-        ensures serves { Serves table.now self.new }
+        ensures stays { ServesStill table.now self.old self.new }
         ensures keeps { KeepsRest (setup_in table.now) (core_of self.old) (core_of self.new) }
         ensures scrapes { TakesAndScrapes (setup_in table.now) producer result (view_in self.old) (view_in self.new) }
-        ensures desk { desk_in self.new ≡ desk_in self.old }
-        ensures letters { (view_in self.new).letters ≡ (view_in self.old).letters }
     {
         self.scrape_at::<Brand>(table, producer)
     }
@@ -95,11 +78,9 @@ impl Service {
     pub fn close_producer(&mut self, table: &HostTable, producer: u16) -> u64
         requires serves { Serves table.now self.old }
         requires open { IsOpen (setup_in table.now) (core_of self.old) producer }
-        ensures serves { Serves table.now self.new }
+        ensures stays { ServesStill table.now self.old self.new }
         ensures closes { ClosesAll (setup_in table.now) producer (core_of self.old) (core_of self.new) }
         ensures takes { TakesAndCloses (setup_in table.now) producer result (view_in self.old) (view_in self.new) }
-        ensures desk { desk_in self.new ≡ desk_in self.old }
-        ensures letters { (view_in self.new).letters ≡ (view_in self.old).letters }
     {
         self.close_at::<Brand>(table, producer)
     }
@@ -117,16 +98,13 @@ impl Service {
 /// The calls at a table and with a desk that their type names.
 impl Service {
     fn collect_at<N: Memory>(&mut self, table: &HostTable, producer: u16) -> u64
-        requires table { identity_of table.now ≡ N.table }
-        requires desk { desk_in self.old ≡ N.desk }
+        requires memory { HasMemory N.table N.desk table.now self.old }
         requires serves { Serves table.now self.old }
         requires open { IsOpen (setup_in table.now) (core_of self.old) producer }
-        ensures serves { Serves table.now self.new }
+        ensures stays { ServesStill table.now self.old self.new }
         ensures keeps { KeepsRest (setup_in table.now) (core_of self.old) (core_of self.new) }
         ensures takes { Takes (setup_in table.now) (places_of producer 0 (setup_in table.now).writers) result
             (view_in self.old) (view_in self.new) }
-        ensures desk { desk_in self.new ≡ N.desk }
-        ensures letters { (view_in self.new).letters ≡ (view_in self.old).letters }
     {
         let mut lent = Remembering::<N> {
             table,
@@ -136,15 +114,12 @@ impl Service {
     }
 
     fn scrape_at<N: Memory>(&mut self, table: &HostTable, producer: u16) -> u64
-        requires table { identity_of table.now ≡ N.table }
-        requires desk { desk_in self.old ≡ N.desk }
+        requires memory { HasMemory N.table N.desk table.now self.old }
         requires serves { Serves table.now self.old }
         requires open { IsOpen (setup_in table.now) (core_of self.old) producer }
-        ensures serves { Serves table.now self.new }
+        ensures stays { ServesStill table.now self.old self.new }
         ensures keeps { KeepsRest (setup_in table.now) (core_of self.old) (core_of self.new) }
         ensures scrapes { TakesAndScrapes (setup_in table.now) producer result (view_in self.old) (view_in self.new) }
-        ensures desk { desk_in self.new ≡ N.desk }
-        ensures letters { (view_in self.new).letters ≡ (view_in self.old).letters }
     {
         let mut lent = Remembering::<N> {
             table,
@@ -154,15 +129,12 @@ impl Service {
     }
 
     fn close_at<N: Memory>(&mut self, table: &HostTable, producer: u16) -> u64
-        requires table { identity_of table.now ≡ N.table }
-        requires desk { desk_in self.old ≡ N.desk }
+        requires memory { HasMemory N.table N.desk table.now self.old }
         requires serves { Serves table.now self.old }
         requires open { IsOpen (setup_in table.now) (core_of self.old) producer }
-        ensures serves { Serves table.now self.new }
+        ensures stays { ServesStill table.now self.old self.new }
         ensures closes { ClosesAll (setup_in table.now) producer (core_of self.old) (core_of self.new) }
         ensures takes { TakesAndCloses (setup_in table.now) producer result (view_in self.old) (view_in self.new) }
-        ensures desk { desk_in self.new ≡ N.desk }
-        ensures letters { (view_in self.new).letters ≡ (view_in self.old).letters }
     {
         let mut lent = Remembering::<N> {
             table,

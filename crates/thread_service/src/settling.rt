@@ -6,7 +6,7 @@ ghost use Rattle.chunk_words.specs.Knows.{Tale};
 ghost use Rattle.chunk_words.specs.Sits.{setup_in};
 ghost use Rattle.chunk_words.specs.declared.host.HostTable.{HostTable};
 ghost use Rattle.service_core.specs.Agreement.{KeepsRest, IsOpen, is_closed};
-ghost use Rattle.thread_service.specs.Serving.{core_of, view_in, desk_in, Serves};
+ghost use Rattle.thread_service.specs.Serving.{core_of, view_in, desk_in, Serves, ServesStill};
 ghost use Rattle.thread_service.specs.Settling.{AreSeenOut, IsSeenOut, IsWholeTale, TakesOut, TakesAllOut};
 
 use crate::service::Service;
@@ -17,10 +17,8 @@ impl Service {
     fn collect_out(&mut self, table: &HostTable, producer: u16)
         requires serves { Serves table.now self.old }
         requires open { IsOpen (setup_in table.now) (core_of self.old) producer }
-        ensures serves { Serves table.now self.new }
+        ensures stays { ServesStill table.now self.old self.new }
         ensures keeps { KeepsRest (setup_in table.now) (core_of self.old) (core_of self.new) }
-        ensures desk { desk_in self.new ≡ desk_in self.old }
-        ensures letters { (view_in self.new).letters ≡ (view_in self.old).letters }
         ensures takes { TakesOut (setup_in table.now) producer (view_in self.old) (view_in self.new) }
         ensures seen { (place : ℕ) → place < length (setup_in table.now).writers → producer_of (setup_in table.now) place ≡ producer
             → IsSeenOut (setup_in table.now) (length (view_in self.old).looks) place (view_in self.new) }
@@ -35,10 +33,8 @@ impl Service {
         requires serves { Serves table.now self.old }
         requires open { (place : ℕ) → place < length (setup_in table.now).writers
             → is_closed (setup_in table.now) (core_of self.old) place ≡ false }
-        ensures serves { Serves table.now self.new }
+        ensures stays { ServesStill table.now self.old self.new }
         ensures keeps { KeepsRest (setup_in table.now) (core_of self.old) (core_of self.new) }
-        ensures desk { desk_in self.new ≡ desk_in self.old }
-        ensures letters { (view_in self.new).letters ≡ (view_in self.old).letters }
         ensures takes { TakesAllOut (setup_in table.now) producers (view_in self.old) (view_in self.new) }
         ensures seen { AreSeenOut (setup_in table.now) (length (view_in self.old).looks) producers (view_in self.new) }
     {
@@ -54,10 +50,8 @@ impl Service {
         requires producers { producers ≡ length (setup_in table.now).ranges }
         requires open { (place : ℕ) → place < length (setup_in table.now).writers
             → is_closed (setup_in table.now) (core_of self.old) place ≡ false }
-        ensures serves { Serves table.now self.new }
+        ensures stays { ServesStill table.now self.old self.new }
         ensures keeps { KeepsRest (setup_in table.now) (core_of self.old) (core_of self.new) }
-        ensures desk { desk_in self.new ≡ desk_in self.old }
-        ensures letters { (view_in self.new).letters ≡ (view_in self.old).letters }
         ensures own { (view_in self.new).commits ≡ (view_in self.old).commits }
         ensures takes { TakesAllOut (setup_in table.now) (length (setup_in table.now).ranges) (view_in self.old) (view_in self.new) }
         ensures taken { (i : ℕ) (tale : Tale) → At (desk_in self.old).told i tale → IsWholeTale (setup_in table.now) (view_in self.old) tale

@@ -4,7 +4,7 @@ ghost use Rattle.chunk_plain.specs.Letters.{last_flush};
 ghost use Rattle.chunk_words.specs.Knows.{with_tale};
 ghost use Rattle.chunk_words.specs.Sits.{Sits, setup_in, known_by};
 ghost use Rattle.chunk_words.specs.Told.{ShowsAllTold, IsMarked};
-ghost use Rattle.thread_service.specs.Serving.{core_of, view_in, desk_in, Serves, IsOnlySeat};
+ghost use Rattle.thread_service.specs.Serving.{view_in, desk_in, Serves, KnowsSame};
 
 use crate::service::Service;
 use chunk_words::{HostTable, WriterSeat};
@@ -18,8 +18,7 @@ impl Service {
         ensures from { Sits table.now from.new }
         ensures told { desk_in self.new ≡ with_tale (desk_in self.old) (view_in self.old) from.old.place (known_by from.old).begun
             (last_flush (known_by from.old).letters.answers) }
-        ensures view { view_in self.new ≡ view_in self.old }
-        ensures only { IsOnlySeat (core_of self.old) (core_of self.new) }
+        ensures same { KnowsSame self.old self.new }
         ensures writer { known_by from.new ≡ known_by from.old }
         ensures place { from.new.place ≡ from.old.place }
     {
@@ -32,9 +31,8 @@ impl Service {
         requires serves { Serves table.now self.old }
         ensures serves { Serves table.now self.new }
         ensures shown { ShowsAllTold (setup_in table.now) (view_in self.new) (desk_in self.new) }
-        ensures view { view_in self.new ≡ view_in self.old }
+        ensures same { KnowsSame self.old self.new }
         ensures desk { desk_in self.new ≡ desk_in self.old }
-        ensures only { IsOnlySeat (core_of self.old) (core_of self.new) }
     {
         table.recall(&mut self.core.seat);
     }
@@ -44,8 +42,7 @@ impl Service {
         requires serves { Serves table.now self.old }
         ensures serves { Serves table.now self.new }
         ensures marked { IsMarked (setup_in table.now) (view_in self.old) (desk_in self.old) (desk_in self.new) }
-        ensures view { view_in self.new ≡ view_in self.old }
-        ensures only { IsOnlySeat (core_of self.old) (core_of self.new) }
+        ensures same { KnowsSame self.old self.new }
     {
         table.mark(&mut self.core.seat);
     }

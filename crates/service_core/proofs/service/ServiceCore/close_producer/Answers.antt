@@ -21,7 +21,7 @@ loop-place-preserved-then-index-producer g c =
     let end = c.len-place-end.ensures in
     let joined = c.collect-count.new.self.writers.ok.0 in
     let test = c.loop-place-test.true in
-    let low : place < length setup.writers = subst (λ (ws : List WriterSpec). place < length ws) c.collect-count.ensures.agrees.writers (omega (arith, end, joined, test)) in
+    let low : place < length setup.writers = subst (λ (ws : List WriterSpec). place < length ws) c.collect-count.ensures.leaves.agrees.writers (omega (arith, end, joined, test)) in
     let read = read_spec setup (means.service_view c.loop-place.table c.loop-place.self.seat) c.loop-place.self place i.agrees low c.index.result.now c.index.ensures in
     let differs = λ (same : producer_of setup place ≡ c.args.producer). c.if-index-producer.true (ap (λ (w : WriterSpec). w.producer) read ∙ same) in
     let places = places_skip c.args.producer setup.writers place low differs in
@@ -44,7 +44,7 @@ loop-place-preserved g c =
     let end = c.len-place-end.ensures in
     let joined = c.collect-count.new.self.writers.ok.0 in
     let test = c.loop-place-test.true in
-    let low : place < length setup.writers = subst (λ (ws : List WriterSpec). place < length ws) c.collect-count.ensures.agrees.writers (omega (arith, end, joined, test)) in
+    let low : place < length setup.writers = subst (λ (ws : List WriterSpec). place < length ws) c.collect-count.ensures.leaves.agrees.writers (omega (arith, end, joined, test)) in
     let read = read_spec setup (means.service_view c.loop-place.table c.loop-place.self.seat) c.loop-place.self place i.agrees low c.index.result.now c.index.ensures in
     let same = sym (ap (λ (w : WriterSpec). w.producer) read) ∙ c.if-index-producer.false in
     let places = places_add c.args.producer setup.writers place low same in
@@ -54,12 +54,12 @@ loop-place-preserved g c =
       agrees = subst (λ (s : Setup). ServiceAgrees s new c.close_writer.new.self) stays c.close_writer.ensures.agrees;
       closes = closes_add setup c.args.producer place c.args.self.now c.loop-place.self c.close_writer.new.self i.closes
           (subst (λ (s : Setup). ClosesOne s place c.loop-place.self c.close_writer.new.self) stays c.close_writer.ensures.closes) same;
-      step = services_follow means c.args.table.now c.args.self.now.seat c.loop-place.table c.loop-place.self.seat c.close_writer.new.table c.close_writer.new.self.seat i.step c.close_writer.ensures.step;
+      step = services_follow means c.args.table.now c.args.self.now.seat c.loop-place.table c.loop-place.self.seat c.close_writer.new.table c.close_writer.new.self.seat i.step c.close_writer.ensures.notes.step;
       told = λ world is. leaves_noted setup c.args.producer world (means.told c.loop-place.table) (means.told c.close_writer.new.table) mid new (i.told world is)
-          (ap (λ (v : ServiceView). v.taken) c.close_writer.ensures.view) c.close_writer.ensures.told;
+          (ap (λ (v : ServiceView). v.taken) c.close_writer.ensures.notes.view) c.close_writer.ensures.notes.told;
       takes = record {
         between = i.takes.between;
         takes = i.takes.takes;
-        view = noted_close i.takes.between mid new before place i.takes.view c.close_writer.ensures.view ∙ ap (λ (ps : List ℕ). noted_more i.takes.between (closes_of ps)) (sym places);
+        view = noted_close i.takes.between mid new before place i.takes.view c.close_writer.ensures.notes.view ∙ ap (λ (ps : List ℕ). noted_more i.takes.between (closes_of ps)) (sym places);
       };
     }

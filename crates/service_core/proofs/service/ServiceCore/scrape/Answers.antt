@@ -4,7 +4,7 @@ use Rattle.trace_base.specs.declared.policy.WriterSpec.{WriterSpec}
 use Rattle.chunk_plain.specs.Setup.{Setup, producer_of}
 use Rattle.service_core.specs.Taking.{places_of}
 use Rattle.service_core.specs.Scraping.{ScrapesOne, ScrapesEach, HoldsOwn}
-use Rattle.service_core.proofs.AgreeLemmas.{goes_on}
+use Rattle.service_core.proofs.AgreeLemmas.{goes_on, writer_at}
 use Rattle.service_core.proofs.ChainLemmas.{places_add, places_skip}
 use Rattle.service_core.proofs.PartLemmas.{scrapes_add}
 use Rattle.service_core.proofs.HeldLemmas.{world_yet, world_skip, world_add, world_all}
@@ -22,14 +22,12 @@ loop-place-preserved-then-index-producer g c =
     let end = c.len-place-end.ensures in
     let joined = c.collect-count.new.self.writers.ok.0 in
     let test = c.loop-place-test.true in
-    let low : place < length setup.writers = subst (λ (ws : List WriterSpec). place < length ws) c.collect-count.ensures.agrees.writers (omega (arith, end, joined, test)) in
-    let read = read_spec setup (means.service_view c.loop-place.table c.loop-place.self.seat) c.loop-place.self place i.agrees low c.index.result.now c.index.ensures in
+    let low : place < length setup.writers = subst (λ (ws : List WriterSpec). place < length ws) c.collect-count.ensures.leaves.agrees.writers (omega (arith, end, joined, test)) in
+    let read = read_spec setup (means.service_view c.loop-place.table c.loop-place.self.seat) c.loop-place.self place i.on.agrees low c.index.result.now c.index.ensures in
     let differs = λ (same : producer_of setup place ≡ c.args.producer). c.if-index-producer.true (ap (λ (w : WriterSpec). w.producer) read ∙ same) in
     let places = places_skip c.args.producer setup.writers place low differs in
     record {
-      agrees = i.agrees;
-      keeps = i.keeps;
-      step = i.step;
+      on = i.on;
       scrapes = record {
         between = i.scrapes.between;
         takes = i.scrapes.takes;
@@ -51,19 +49,15 @@ loop-place-preserved g c =
     let end = c.len-place-end.ensures in
     let joined = c.collect-count.new.self.writers.ok.0 in
     let test = c.loop-place-test.true in
-    let low : place < length setup.writers = subst (λ (ws : List WriterSpec). place < length ws) c.collect-count.ensures.agrees.writers (omega (arith, end, joined, test)) in
-    let read = read_spec setup (means.service_view c.loop-place.table c.loop-place.self.seat) c.loop-place.self place i.agrees low c.index.result.now c.index.ensures in
+    let low : place < length setup.writers = subst (λ (ws : List WriterSpec). place < length ws) c.collect-count.ensures.leaves.agrees.writers (omega (arith, end, joined, test)) in
+    let read = read_spec setup (means.service_view c.loop-place.table c.loop-place.self.seat) c.loop-place.self place i.on.agrees low c.index.result.now c.index.ensures in
     let same = sym (ap (λ (w : WriterSpec). w.producer) read) ∙ c.if-index-producer.false in
     let places = places_add c.args.producer setup.writers place low same in
-    let stays = i.step.setup_stays in
+    let stays = i.on.step.setup_stays in
     let before = places_of c.args.producer 0 (take place setup.writers) in
     let one = subst (λ (s : Setup). ScrapesOne s place mid new) stays c.scrape_writer.ensures.scrapes in
-    let goes = goes_on means c.args.table.now c.loop-place.table c.scrape_writer.new.table c.args.self.now c.loop-place.self c.scrape_writer.new.self i.keeps i.step
-    c.scrape_writer.ensures.agrees c.scrape_writer.ensures.keeps c.scrape_writer.ensures.step in
     record {
-      agrees = goes.agrees;
-      keeps = goes.keeps;
-      step = goes.step;
+      on = goes_on i.on c.scrape_writer.ensures.leaves;
       scrapes = record {
         between = i.scrapes.between;
         takes = i.scrapes.takes;
@@ -75,6 +69,19 @@ loop-place-preserved g c =
           (λ w e holds. c.scrape_writer.ensures.told w e (subst (λ (s : Setup). HoldsOwn s place w) (sym stays) holds));
     }
 
+pub scrape_writer-requires : goal.scrape_writer-requires
+scrape_writer-requires g c =
+    let means = g.W.Words.means in
+    let i = c.loop-place.invariant in
+    let setup = means.setup c.args.table.now in
+    let place = c.loop-place.place in
+    let end = c.len-place-end.ensures in
+    let joined = c.collect-count.new.self.writers.ok.0 in
+    let test = c.loop-place-test.true in
+    let low : place < length setup.writers = subst (λ (ws : List WriterSpec). place < length ws) c.collect-count.ensures.leaves.agrees.writers (omega (arith, end, joined, test)) in
+    let read = read_spec setup (means.service_view c.loop-place.table c.loop-place.self.seat) c.loop-place.self place i.on.agrees low c.index.result.now c.index.ensures in
+    record { writer = writer_at i.on place low (c.requires.open place low (sym (ap (λ (w : WriterSpec). w.producer) read) ∙ c.if-index-producer.false)) }
+
 pub loop-place-init : goal.loop-place-init
 loop-place-init g c =
     let means = g.W.Words.means in
@@ -82,9 +89,7 @@ loop-place-init g c =
     let old = means.service_view c.args.table.now c.args.self.now.seat in
     let mid = means.service_view c.collect-count.new.table c.collect-count.new.self.seat in
     record {
-      agrees = c.collect-count.ensures.agrees;
-      keeps = c.collect-count.ensures.keeps;
-      step = c.collect-count.ensures.step;
+      on = c.collect-count.ensures.leaves;
       scrapes = record { between = mid; takes = c.collect-count.ensures.takes; scrapes = refl };
       told = λ world is own.
           world_yet setup c.args.producer c.collect-count.result world old (means.told c.collect-count.new.table) mid (c.collect-count.ensures.told world is) c.collect-count.ensures.takes;
@@ -98,6 +103,6 @@ returns-clause-told g c world is own =
     let end = c.len-place-end.ensures in
     let joined = c.collect-count.new.self.writers.ok.0 in
     let test = c.loop-place-test.false in
-    let long = ap (λ (ws : List WriterSpec). length ws) c.collect-count.ensures.agrees.writers in
+    let long = ap (λ (ws : List WriterSpec). length ws) c.collect-count.ensures.leaves.agrees.writers in
     world_all setup c.args.producer c.collect-count.result (take c.loop-place.place setup.writers) world old (means.told c.loop-place.table) (means.service_view c.loop-place.table c.loop-place.self.seat)
     (take_all c.loop-place.place setup.writers (omega (arith, end, joined, test, long))) (c.loop-place.invariant.told world is own)

@@ -1,16 +1,13 @@
 use Rattle.std.proofs.Common.{◌≡◌, ◌<◌, ℕ, Some, length, take}
 use Rattle.chunk_plain.specs.Setup.{producer_of}
 use Rattle.chunk_plain.specs.World.{World}
-use Rattle.chunk_plain.specs.Meaning.{IsServiceStep}
-use Rattle.service_core.specs.Agreement.{ServiceAgrees, KeepsRest}
 use Rattle.service_core.specs.Scraping.{TakesAndScrapesSome, ScrapesWorldYet, HoldsOwn}
+use Rattle.service_core.specs.Calls.{ServesOn}
 use Rattle.service_core.proofs.service.ServiceCore.scrape.Given as goal
 
 abbrev pub invariant-loop-place : goal.invariant-loop-place
 invariant-loop-place g l = record {
-  agrees : ServiceAgrees (g.W.Words.means.setup l.fn.table) (g.W.Words.means.service_view l.table l.self.seat) l.self;
-  keeps : KeepsRest (g.W.Words.means.setup l.fn.table) l.fn.self l.self;
-  step : IsServiceStep g.W.Words.means l.fn.table l.fn.self.seat l.table l.self.seat;
+  on : ServesOn g.W.Words.means l.fn.table l.fn.self l.table l.self;
   scrapes : TakesAndScrapesSome (g.W.Words.means.setup l.fn.table) l.producer l.count (take l.place (g.W.Words.means.setup l.fn.table).writers)
       (g.W.Words.means.service_view l.fn.table l.fn.self.seat) (g.W.Words.means.service_view l.table l.self.seat);
   told : (world : World) → g.W.Words.means.told l.fn.table ≡ Some world

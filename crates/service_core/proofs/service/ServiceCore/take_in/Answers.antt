@@ -1,4 +1,4 @@
-use Rattle.std.proofs.Common.{◌≡◌, ◌+◌, ◌-◌, ◌<◌, ℕ, List, [], ◌∷◌, length, map, subst, sym, vec_len, ◌∙◌, ap, arith}
+use Rattle.std.proofs.Common.{◌≡◌, ◌+◌, ◌-◌, ◌<◌, ℕ, List, [], ◌∷◌, length, map, subst, sym, vec_len, ◌∙◌, ap, refl, arith, rules}
 use Rattle.std.proofs.lemmas.List.{get_or_read}
 use Rattle.trace_base.specs.declared.policy.WriterSpec.{WriterSpec}
 use Rattle.page_geometry.specs.Sizes.{record_size}
@@ -20,34 +20,38 @@ pub patch_in-requires : goal.patch_in-requires
 patch_in-requires g c =
     let size : ℕ = record_size (vec_len c.args.taken.body.payload) in
     let bs : List Buffer = c.args.self.now.buffers.items in
-    let read = get_or_read c.args.self.now.writers.items c.args.place c.index.result.now c.requires.writer c.index.ensures no_writer in
+    let read = get_or_read c.args.self.now.writers.items c.args.place c.index.result.now c.requires.route.listed c.index.ensures no_writer in
     let buffer : c.from-index.result ≡ (spec_at c.args.self.now.writers.items c.args.place).buffer = c.from-index.ensures ∙ ap (λ (w : WriterSpec). w.buffer) read in
-    let at = subst (λ (b : ℕ). IsAt bs (b - 1) (c.args.place + 2) size) (sym buffer) c.requires.at in
+    let at = subst (λ (b : ℕ). IsAt bs (b - 1) (c.args.place + 2) size) (sym buffer) c.requires.route.at in
     let after = c.arrive_in.ensures.after in
     let image : Image = image_value (record { sequence = c.args.place + 2; chunk_id = c.args.taken.header.chunk_id; count = c.args.taken.header.count; flags = c.args.taken.header.flags; payload = c.deref.result }) in
     let events = arrivals_of (placed_image (from_at bs (c.from-index.result - 1) (c.args.place + 2)) image) in
     (size, subst (λ (xs : List Buffer). IsAt xs (c.from-index.result - 1) (c.args.place + 2) size) (sym after) (is_at_after bs (c.from-index.result - 1) (c.args.place + 2) size events at))
 
-pub returns-clause-buffers : goal.returns-clause-buffers
-returns-clause-buffers g c =
+pub returns-clause-puts : goal.returns-clause-puts
+returns-clause-puts g c =
     let setup = g.W.Words.means.setup c.args.table.now in
     let bs : List Buffer = c.args.self.now.buffers.items in
     let q : ℕ = c.args.place + 2 in
-    let read = get_or_read c.args.self.now.writers.items c.args.place c.index.result.now c.requires.writer c.index.ensures no_writer in
+    let read = get_or_read c.args.self.now.writers.items c.args.place c.index.result.now c.requires.route.listed c.index.ensures no_writer in
     let buffer : c.from-index.result ≡ (spec_at c.args.self.now.writers.items c.args.place).buffer = c.from-index.ensures ∙ ap (λ (w : WriterSpec). w.buffer) read in
-    let from_is : from_at bs (c.from-index.result - 1) q ≡ from_of setup c.args.place = ap (λ (b : ℕ). from_at bs (b - 1) q) buffer ∙ c.requires.from in
-    let inside : c.from-index.result - 1 < length bs = subst (λ (b : ℕ). b - 1 < length bs) (sym buffer) c.requires.at.inside in
+    let from_is : from_at bs (c.from-index.result - 1) q ≡ from_of setup c.args.place = ap (λ (b : ℕ). from_at bs (b - 1) q) buffer ∙ c.requires.route.from in
+    let inside : c.from-index.result - 1 < length bs = subst (λ (b : ℕ). b - 1 < length bs) (sym buffer) c.requires.route.at.inside in
     let image : Image = image_value (record { sequence = q; chunk_id = c.args.taken.header.chunk_id; count = c.args.taken.header.count; flags = c.args.taken.header.flags; payload = c.deref.result }) in
-    let position = c.requires.position in
+    let position = c.requires.taken.fits in
     let given = map patch_value c.args.taken.body.patches.value.items in
     let patches = placed_patches (from_of setup c.args.place) given in
     let brought = rw c.deref-2.ensures at c.as_slice-patches.ensures.value in
     let patched = c.patch_in.ensures
     ∙ ap (λ (ps : List Patch). buffers_after c.arrive_in.new.buffers.items (model.Patched q (placed_patches (from_at c.arrive_in.new.buffers.items (c.from-index.result - 1) q) (map patch_value ps)) ∷ []))
     brought in
-    arrives_placed bs c.arrive_in.new.buffers.items c.patch_in.new.buffers.items (c.from-index.result - 1) q (from_of setup c.args.place) c.args.position image
-    given inside from_is c.requires.id (omega (arith, position)) c.arrive_in.ensures.after patched
-    ∙ ap (λ (payload : List ℕ). buffers_after (buffers_after bs (arrivals_of (record image { chunk_id = c.args.position; payload = payload }))) (model.Patched q patches ∷ [])) c.deref.ensures.value
+    record {
+      buffers = arrives_placed bs c.arrive_in.new.buffers.items c.patch_in.new.buffers.items (c.from-index.result - 1) q (from_of setup c.args.place) c.args.position image
+          given inside from_is c.requires.taken.id (omega (arith, position)) c.arrive_in.ensures.after patched
+          ∙ ap (λ (payload : List ℕ). buffers_after (buffers_after bs (arrivals_of (record image { chunk_id = c.args.position; payload = payload }))) (model.Patched q patches ∷ [])) c.deref.ensures.value;
+      counts = search rules;
+      fields = record { layout = refl; specs = refl; writers = refl; session = refl };
+    }
 
 pub returns-clause-told : goal.returns-clause-told
 returns-clause-told g c world is = c.release.ensures.told _ (c.note_patches.ensures.told _ (c.note.ensures.told world is))

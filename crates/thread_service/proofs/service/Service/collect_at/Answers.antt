@@ -1,17 +1,8 @@
-use Rattle.std.proofs.Common.{ap}
-use Rattle.session_core.specs.Sessions.{SessionValue}
-use Rattle.thread_service.proofs.Standing.{serves_back, counts_on}
+use Rattle.thread_service.proofs.Standing.{still_serves}
 use Rattle.thread_service.proofs.service.Service.collect_at.Goals as goal
 
-pub returns-clause-serves : goal.returns-clause-serves
-returns-clause-serves g c =
-    serves_back g.N.Memory.table g.N.Memory.desk c.args.table.now c.collect.new.table.table.now c.collect.new.self c.requires.table c.collect.ensures.step.seat_stays
-    c.collect.ensures.step.setup_stays c.collect.ensures.agrees
-    (counts_on c.args.self.now.core c.collect.new.self (ap (λ (s : SessionValue). s.requests) c.collect.ensures.keeps.fields.session) c.collect.ensures.step.letters_stay
-    c.requires.serves.asked)
-
-pub returns-clause-desk : goal.returns-clause-desk
-returns-clause-desk g c = c.collect.ensures.step.seat_stays.0.desk_is
-
-pub returns-clause-letters : goal.returns-clause-letters
-returns-clause-letters g c = c.collect.ensures.step.letters_stay
+pub returns-clause-stays : goal.returns-clause-stays
+returns-clause-stays g c =
+    let on = c.collect.ensures.leaves in
+    still_serves g.N.Memory.table g.N.Memory.desk c.args.table.now c.collect.new.table.table.now c.args.self.now c.collect.new.self c.requires.memory
+    on.step.seat_stays on.step.setup_stays on.agrees on.keeps.fields.session on.step.letters_stay c.requires.serves

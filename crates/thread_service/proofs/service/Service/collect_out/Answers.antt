@@ -1,5 +1,5 @@
 -- A round that takes a chunk uses up an id; one that takes none shows that none is left.
-use Rattle.std.proofs.Common.{◌≡◌, ◌≤◌, ◌∙◌, ℕ, [], ◌∷◌, ◌++◌, length, length-append, sym, subst, arith}
+use Rattle.std.proofs.Common.{◌≡◌, ◌≤◌, ℕ, [], ◌∷◌, ◌++◌, length, length-append, sym, subst, arith}
 use Rattle.chunk_plain.specs.Setup.{producer_of}
 use Rattle.chunk_words.specs.Sits.{setup_in}
 use Rattle.service_core.specs.Taking.{Takes, places_of}
@@ -8,23 +8,22 @@ use Rattle.service_core.proofs.QuietLemmas.{places_below}
 use Rattle.service_core.proofs.RoomLemmas.{ids_fall}
 use Rattle.thread_service.specs.Serving.{core_of, view_in}
 use Rattle.thread_service.specs.Settling.{TakesRounds}
+use Rattle.thread_service.proofs.Standing.{stays_on}
 use Rattle.thread_service.proofs.SettlingLemmas.{rounds_look, rounds_more, some_more, round_shows, seen_since}
 use Rattle.thread_service.proofs.service.Service.collect_out.Goals as goal
 
 pub rounds-smaller : goal.rounds-smaller
 rounds-smaller c =
     ids_fall (setup_in c.args.table.now) (view_in c.rounds.self) (view_in c.collect.new.self) (core_of c.rounds.self) (core_of c.collect.new.self) c.args.producer
-    c.collect.result c.rounds.invariant.serves.agrees c.collect.ensures.serves.agrees c.collect.ensures.takes c.ids_fit.ensures c.rounds-test.true
+    c.collect.result c.rounds.invariant.stays.serves.agrees c.collect.ensures.stays.serves.agrees c.collect.ensures.takes c.ids_fit.ensures c.rounds-test.true
 
 pub rounds-preserved : goal.rounds-preserved
 rounds-preserved c =
     let setup = setup_in c.args.table.now in
     let i = c.rounds.invariant in
     record {
-      serves = c.collect.ensures.serves;
+      stays = stays_on i.stays c.collect.ensures.stays;
       keeps = keeps_both setup (core_of c.args.self.now) (core_of c.rounds.self) (core_of c.collect.new.self) i.keeps c.collect.ensures.keeps;
-      desk = c.collect.ensures.desk ∙ i.desk;
-      letters = c.collect.ensures.letters ∙ i.letters;
       rounds = (
         i.rounds.0 ++ c.collect.result ∷ [],
         some_more i.rounds.0 c.collect.result i.rounds.1 c.rounds-test.true,

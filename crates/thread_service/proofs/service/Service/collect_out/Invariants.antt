@@ -1,17 +1,15 @@
-use Rattle.std.proofs.Common.{◌≡◌, ℕ, ◌<◌, List}
+use Rattle.std.proofs.Common.{ℕ, ◌<◌, List}
 use Rattle.std.specs.List.{All}
 use Rattle.chunk_words.specs.Sits.{setup_in}
 use Rattle.service_core.specs.Agreement.{KeepsRest, ids_left}
-use Rattle.thread_service.specs.Serving.{core_of, view_in, desk_in, Serves}
+use Rattle.thread_service.specs.Serving.{core_of, view_in, ServesStill}
 use Rattle.thread_service.specs.Settling.{TakesRounds}
 use Rattle.thread_service.proofs.service.Service.collect_out.Given as goal
 
 abbrev pub invariant-rounds : goal.invariant-rounds
 invariant-rounds l = record {
-  serves : Serves l.table l.self;
+  stays : ServesStill l.table l.initial.self l.self;
   keeps : KeepsRest (setup_in l.table) (core_of l.initial.self) (core_of l.self);
-  desk : desk_in l.self ≡ desk_in l.initial.self;
-  letters : (view_in l.self).letters ≡ (view_in l.initial.self).letters;
   rounds : (rounds : List ℕ) × All (λ taken. 0 < taken) rounds
       × TakesRounds (setup_in l.table) l.producer rounds (view_in l.initial.self) (view_in l.self);
 }

@@ -5,7 +5,10 @@ use Rattle.chunk_words.specs.Sits.{known_by_service}
 use Rattle.thread_service.proofs.Standing.{made_serves}
 use Rattle.thread_service.proofs.service.Service.make.Goals as goal
 
-pub returns-clause-serves : goal.returns-clause-serves
-returns-clause-serves c table attends setup unused none =
-    made_serves table (setup_of c.args.producers.now c.args.writers.now) c.args.seat c.in_ok-core.core c.in_ok-core.ensures.seat attends setup
-    (c.in_ok-core.ensures.agrees (known_by_service c.args.seat) unused) (ap (λ (s : SessionValue). s.requests) c.in_ok-core.ensures.session ∙ sym none)
+pub returns : goal.returns
+returns c = record {
+  made = c.in_ok-core.ensures;
+  serves = λ table attends setup unused none.
+      made_serves table (setup_of c.args.producers.now c.args.writers.now) c.args.seat c.in_ok-core.core c.in_ok-core.ensures.seat_is attends setup
+      (c.in_ok-core.ensures.agrees (known_by_service c.args.seat) unused) (ap (λ (s : SessionValue). s.requests) c.in_ok-core.ensures.session ∙ sym none);
+}

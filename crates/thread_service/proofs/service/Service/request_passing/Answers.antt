@@ -1,4 +1,4 @@
-use Rattle.std.proofs.Common.{◌≡◌, ◌∙◌, [], ◌∷◌, ◌++◌, ◌+◌, sym, ap, subst}
+use Rattle.std.proofs.Common.{◌≡◌, ◌∙◌, [], ◌∷◌, ◌++◌, ◌+◌, sym, ap, subst, rules}
 use Rattle.chunk_plain.specs.Histories.{history_of}
 use Rattle.chunk_plain.specs.Views.{Asked, ServiceView, asked_in}
 use Rattle.chunk_words.specs.Sits.{setup_in, known_by_pass, known_by_service}
@@ -11,11 +11,17 @@ use Rattle.thread_service.proofs.PassLemmas.{passes_request}
 use Rattle.thread_service.proofs.Standing.{agrees_letters, answered_requests, history_letters, known_letters}
 use Rattle.thread_service.proofs.service.Service.request_passing.Goals as goal
 
+-- a refused one leaves the service and the pass as they were, compared
 pub returns-in_err-flush-clause-passes : goal.returns-in_err-flush-clause-passes
 returns-in_err-flush-clause-passes c =
     let passed = known_by_pass c.args.pass.now in
-    passes_request (setup_in c.args.table.now) (core_of c.args.self.now) passed passed (known_by_pass c.compare.new.pass) c.requires.known (goes_same passed)
-    (ap history_of c.compare.ensures.known)
+    record {
+      goes_on = c.compare.ensures.joins.goes_on;
+      view = search rules;
+      knows = search rules;
+      passes = passes_request (setup_in c.args.table.now) (core_of c.args.self.now) passed passed (known_by_pass c.compare.new.pass) c.requires.serves.known (goes_same passed)
+          (ap history_of c.compare.ensures.known);
+    }
 
 -- behind the session's own call the service agrees with the view of its seat, which is as it was
 agrees_then : (c : goal.After-note_request) → ServiceAgrees (setup_in c.args.table.now) (known_by_service c.request_flush.new.self.seat) c.request_flush.new.self
@@ -29,7 +35,7 @@ view_then c = ap known_by_service c.request_flush.ensures.keeps.seat ∙ c.compa
 asked_then : (c : goal.After-note_request) → c.request_flush.new.self.session.requests ≡ asked_in (known_by_service c.request_flush.new.self.seat).letters + 1
 asked_then c = let old = core_of c.args.self.now in
     answered_requests _ c.in_ok-flush.flush _ old.session c.request_flush.new.self.session (sym c.in_ok-flush.was ∙ c.request_flush.ensures.answer) c.request_flush.ensures.after
-    ∙ ap (λ n. n + 1) (c.requires.serves.asked ∙ sym (ap (λ (v : ServiceView). asked_in v.letters) (view_then c)))
+    ∙ ap (λ n. n + 1) (c.requires.serves.serves.asked ∙ sym (ap (λ (v : ServiceView). asked_in v.letters) (view_then c)))
 
 pub returns-clause-serves : goal.returns-clause-serves
 returns-clause-serves c =
@@ -39,20 +45,24 @@ returns-clause-serves c =
     let letters = old.letters ++ Asked ∷ [] in
     let view = c.note_request.ensures.view in
     record {
-      attends = c.note_request.ensures.seat;
-      agrees = subst (λ (v : ServiceView). ServiceAgrees setup v (record core { seat = c.note_request.new.seat })) (sym view)
-          (agrees_letters old letters setup core c.note_request.new.seat (agrees_then c));
-      asked = asked_then c ∙ sym (asked_more old.letters) ∙ sym (ap (λ (v : ServiceView). asked_in v.letters) view);
+      serves = record {
+        attends = c.note_request.ensures.seat;
+        agrees = subst (λ (v : ServiceView). ServiceAgrees setup v (record core { seat = c.note_request.new.seat })) (sym view)
+            (agrees_letters old letters setup core c.note_request.new.seat (agrees_then c));
+        asked = asked_then c ∙ sym (asked_more old.letters) ∙ sym (ap (λ (v : ServiceView). asked_in v.letters) view);
+      };
+      passes = c.note_request.ensures.pass;
+      known = subst IsKnownWhole (sym (c.note_request.ensures.known ∙ view)) (known_letters old letters (agrees_then c).known);
     }
-
-pub returns-clause-known : goal.returns-clause-known
-returns-clause-known c =
-    let old = known_by_service c.request_flush.new.self.seat in
-    subst IsKnownWhole (sym (c.note_request.ensures.known ∙ c.note_request.ensures.view)) (known_letters old (old.letters ++ Asked ∷ []) (agrees_then c).known)
 
 pub returns-clause-passes : goal.returns-clause-passes
 returns-clause-passes c =
     let old = known_by_service c.request_flush.new.self.seat in
-    passes_request (setup_in c.args.table.now) (core_of c.args.self.now) (known_by_pass c.args.pass.now) (view_in c.args.self.now) (known_by_pass c.note_request.new.pass)
-    c.requires.known c.compare.ensures.joins.goes_on
-    (ap history_of (c.note_request.ensures.known ∙ c.note_request.ensures.view) ∙ history_letters old (old.letters ++ Asked ∷ []) (agrees_then c).known ∙ ap history_of (view_then c))
+    record {
+      goes_on = c.compare.ensures.joins.goes_on;
+      view = search rules;
+      knows = search rules;
+      passes = passes_request (setup_in c.args.table.now) (core_of c.args.self.now) (known_by_pass c.args.pass.now) (view_in c.args.self.now) (known_by_pass c.note_request.new.pass)
+          c.requires.serves.known c.compare.ensures.joins.goes_on
+          (ap history_of (c.note_request.ensures.known ∙ c.note_request.ensures.view) ∙ history_letters old (old.letters ++ Asked ∷ []) (agrees_then c).known ∙ ap history_of (view_then c));
+    }
