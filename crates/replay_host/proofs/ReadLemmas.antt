@@ -16,7 +16,7 @@ use Rattle.chunk_plain.specs.Steps.{serviced}
 use Rattle.chunk_plain.specs.Views.{Noted, ServiceView}
 use Rattle.chunk_plain.specs.World.{World}
 use Rattle.service_core.specs.Agreement.{AreKnownNotes, KeepsRest, first_of}
-use Rattle.service_core.specs.Reading.{FailsAmong, ReadsAll, noted_read, reads_in, sequences_to}
+use Rattle.service_core.specs.Reading.{FailsAmong, ReadsAll, noted_read, reads_in, sequences_to, read_moment}
 use Rattle.service_core.specs.Routing.{buffer_at}
 use Rattle.service_core.specs.Taking.{noted_more}
 use Rattle.service_core.proofs.AgreeLemmas.{first_stays}
@@ -65,8 +65,9 @@ pub read_done : {T W S : Type 0} (means : Meaning T W S) → AreLaws means → (
     (taken left : Intake) → IsServed means old.table old.helper.service
     → IsServiceStep means old.table old.helper.service.seat new.table new.helper.service.seat
     → KeepsRest (means.setup old.table) old.helper.service new.helper.service
-    → ReadsAll (means.setup old.table) old.helper.service number limit
-    (means.service_view old.table old.helper.service.seat) (means.service_view new.table new.helper.service.seat) taken left delivered
+    → ReadsAll (means.setup old.table) old.helper.service number limit delivered
+    (read_moment (means.service_view old.table old.helper.service.seat) taken)
+    (read_moment (means.service_view new.table new.helper.service.seat) left)
     → ((was : World) → means.told old.table ≡ Some was
     → means.told new.table ≡ Some (serviced was (means.service_view new.table new.helper.service.seat)))
     → HasDone means (ReadAll number limit ∷ []) [] old taken new left
@@ -132,7 +133,8 @@ pub read_fails : {T W S : Type 0} (means : Meaning T W S) (number limit : ℕ) (
     → IsServiceStep means old.table old.helper.service.seat new.table new.helper.service.seat
     → KeepsRest (means.setup old.table) old.helper.service new.helper.service
     → FailsAmong (means.setup old.table) old.helper.service number limit
-    (means.service_view old.table old.helper.service.seat) (means.service_view new.table new.helper.service.seat) taken left
+    (read_moment (means.service_view old.table old.helper.service.seat) taken)
+    (read_moment (means.service_view new.table new.helper.service.seat) left)
     → ((was : World) → means.told old.table ≡ Some was
     → means.told new.table ≡ Some (serviced was (means.service_view new.table new.helper.service.seat)))
     → FailsReading means number limit old taken new left WriteFault

@@ -16,7 +16,7 @@ use Rattle.chunk_plain.specs.Views.{Draft, ServiceView}
 use Rattle.chunk_plain.specs.World.{World, Writing, status, writer}
 use Rattle.trace_writer.specs.declared.writer.WriterCore.{WriterCore}
 use Rattle.service_core.specs.Agreement.{first_of}
-use Rattle.service_core.specs.Reading.{reads_in, noted_read, FailsAmong}
+use Rattle.service_core.specs.Reading.{reads_in, noted_read, FailsAmong, read_moment}
 use Rattle.service_core.specs.Taking.{noted_more}
 use Rattle.replay_model.specs.Acts.{Act, Ask, ReadAll}
 use Rattle.replay_model.specs.Does.{MayNeedChunk, IsOut, Works, LeavesRest, GoesRound, Collects, Reads, policy_of}
@@ -91,7 +91,8 @@ pub record FailsReading {T W S : Type 0} (means : Meaning T W S) (number limit :
   pub setup_is : means.setup new.table ≡ means.setup old.table
   pub first : first_of (means.setup old.table) new.helper.service ≡ first_of (means.setup old.table) old.helper.service
   pub among : FailsAmong (means.setup old.table) old.helper.service number limit
-      (means.service_view old.table old.helper.service.seat) (means.service_view new.table new.helper.service.seat) taken left
+      (read_moment (means.service_view old.table old.helper.service.seat) taken)
+      (read_moment (means.service_view new.table new.helper.service.seat) left)
   pub told : (was : World) → means.told old.table ≡ Some was
       → means.told new.table ≡ Some (serviced was (means.service_view new.table new.helper.service.seat))
   pub part : (start : Intake) → IsTraceOf start (first_of (means.setup old.table) old.helper.service) (means.service_view old.table old.helper.service.seat) taken

@@ -14,7 +14,7 @@ use Rattle.chunk_plain.specs.Setup.{Setup}
 use Rattle.chunk_plain.specs.Views.{ServiceView}
 use Rattle.service_core.specs.declared.service.ServiceCore.{ServiceCore}
 use Rattle.service_core.specs.Agreement.{KeepsRest, ServiceAgrees}
-use Rattle.service_core.specs.Reading.{FailsAmong, ReadsAll, reads_in}
+use Rattle.service_core.specs.Reading.{ReadMoment, FailsAmong, ReadsAll, read_moment, reads_in}
 use Rattle.service_core.proofs.AgreeLemmas.{first_stays}
 use Rattle.service_core.proofs.ReadingLemmas.{records_append, trace_append}
 use Rattle.stream_frames.specs.Frames as frames
@@ -24,10 +24,11 @@ use Rattle.stream_producer.specs.Standing.{Stands, Plays, due_of, events_for, vi
 use Rattle.stream_producer.proofs.CallLemmas.{stands_on, buffers_on}
 
 -- where a write failed, the sink took a part of what the reads are to write
-pub part_of_reads : {S : Type 0} (setup : Setup) (core : ServiceCore S) (number limit : ℕ) (old new : ServiceView) (before after : Intake)
-    → FailsAmong setup core number limit old new before after
-    → TakesPart before after (trace_of (records_after core.buffers.items (reads_in setup core.buffers.items number limit)))
-part_of_reads setup core number limit old new before after fails =
+pub part_of_reads : {S : Type 0} (setup : Setup) (core : ServiceCore S) (number limit : ℕ) (was is : ReadMoment) → FailsAmong setup core number limit was is
+    → TakesPart was.taken is.taken (trace_of (records_after core.buffers.items (reads_in setup core.buffers.items number limit)))
+part_of_reads setup core number limit was is fails =
+    let before : Intake = was.taken in
+    let after : Intake = is.taken in
     let bs : List Buffer = core.buffers.items in
     let here : List Buffer = buffers_after bs fails.firsts in
     let whole : Event = model.Read fails.sequence fails.left in
@@ -65,7 +66,7 @@ module _ {T W S : Type 0} (means : Meaning T W S) (limits : Limits) (buffer : �
       → IsServiceStep means old.table old.service.seat new.table new.service.seat
       → KeepsRest (means.setup old.table) old.service new.service
       → (delivered : ℕ)
-      → ReadsAll (means.setup old.table) old.service buffer MAX_NUMBER (view_of means old) (view_of means new) before after delivered
+      → ReadsAll (means.setup old.table) old.service buffer MAX_NUMBER delivered (read_moment (view_of means old) before) (read_moment (view_of means new) after)
       → new.commits ≡ old.commits → new.refused ≡ old.refused
       → Plays means limits (frames.Reads buffer ∷ []) old new before after
   read_played was agrees step keeps delivered reads commits refused =
@@ -87,9 +88,9 @@ module _ {T W S : Type 0} (means : Meaning T W S) (limits : Limits) (buffer : �
 -- and where a write failed, the sink took a part of what is due of the frame
 pub read_part : {T W S : Type 0} (means : Meaning T W S) (limits : Limits) (buffer : ℕ) (old : Player T S) (view : ServiceView)
     (before after : Intake)
-    → FailsAmong (means.setup old.table) old.service buffer MAX_NUMBER (view_of means old) view before after
+    → FailsAmong (means.setup old.table) old.service buffer MAX_NUMBER (read_moment (view_of means old) before) (read_moment view after)
     → TakesPart before after (due_of means limits old (frames.Reads buffer ∷ []))
 read_part means limits buffer old view before after fails =
     let events : List Event = reads_in (means.setup old.table) old.service.buffers.items buffer MAX_NUMBER in
     subst (λ (es : List Event). TakesPart before after (trace_of (records_after old.service.buffers.items es))) (sym (append-nil events))
-    (part_of_reads (means.setup old.table) old.service buffer MAX_NUMBER (view_of means old) view before after fails)
+    (part_of_reads (means.setup old.table) old.service buffer MAX_NUMBER (read_moment (view_of means old) before) (read_moment view after) fails)

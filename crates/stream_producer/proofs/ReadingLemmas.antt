@@ -13,7 +13,7 @@ use Rattle.chunk_plain.specs.Views.{ServiceView}
 use Rattle.world_model.specs.FirstBuffers as first
 use Rattle.trace_buffer.specs.declared.answers.BufferSpec.{BufferSpec}
 use Rattle.service_core.specs.Agreement.{KeepsRest, ServiceAgrees, first_of, spec_value}
-use Rattle.service_core.specs.Reading.{FailsAmong, ReadsAll, reads_in}
+use Rattle.service_core.specs.Reading.{FailsAmong, ReadsAll, read_moment, reads_in}
 use Rattle.service_core.proofs.ReadingLemmas.{records_append, trace_append}
 use Rattle.service_core.proofs.RouteLemmas.{buffers_append, buffers_none}
 use Rattle.stream_producer.specs.declared.player.Player.{Player}
@@ -76,7 +76,7 @@ module _ {T W S : Type 0} (means : Meaning T W S) (old : Player T S) (before : I
       → IsServiceStep means now.table now.service.seat new.table new.service.seat
       → KeepsRest (means.setup now.table) now.service new.service
       → (delivered : ℕ)
-      → ReadsAll (means.setup now.table) now.service (count + 1) MAX_NUMBER (view_of means now) (view_of means new) taken after delivered
+      → ReadsAll (means.setup now.table) now.service (count + 1) MAX_NUMBER delivered (read_moment (view_of means now) taken) (read_moment (view_of means new) after)
       → new.commits ≡ now.commits → new.refused ≡ now.refused → ReadsTo (count + 1) new after
   reads_more count now new taken after below so agrees step keeps delivered reads commits refused =
       let setup : Setup = means.setup old.table in
@@ -146,7 +146,7 @@ module _ {T W S : Type 0} (means : Meaning T W S) (old : Player T S) (before : I
   -- where a write failed in the next one
   pub reads_fail : (count : ℕ) (now : Player T S) (view : ServiceView) (taken after : Intake) → count < length old.service.specs.items
       → ReadsTo count now taken
-      → FailsAmong (means.setup now.table) now.service (count + 1) MAX_NUMBER (view_of means now) view taken after
+      → FailsAmong (means.setup now.table) now.service (count + 1) MAX_NUMBER (read_moment (view_of means now) taken) (read_moment view after)
       → TakesPart before after (due_of_reads means old)
   reads_fail count now view taken after below so fails =
       let setup : Setup = means.setup old.table in
@@ -157,7 +157,7 @@ module _ {T W S : Type 0} (means : Meaning T W S) (old : Player T S) (before : I
       let all = so.rest ∙ ap (λ (es : List Event). so.events ++ es) (next_is count now below) in
       let part : TakesPart taken after (trace_of (records_after here more)) =
       subst (λ (s : Setup). TakesPart taken after (trace_of (records_after here (reads_in s here (count + 1) MAX_NUMBER)))) so.setup_stays
-      (part_of_reads (means.setup now.table) now.service (count + 1) MAX_NUMBER (view_of means now) view taken after fails) in
+      (part_of_reads (means.setup now.table) now.service (count + 1) MAX_NUMBER (read_moment (view_of means now) taken) (read_moment view after) fails) in
       let due : due_of_reads means old
       ≡ trace_of (records_after bs so.events)
       ++ (trace_of (records_after here more) ++ trace_of (records_after (buffers_after here more) last)) =

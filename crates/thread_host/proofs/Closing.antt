@@ -15,7 +15,7 @@ use Rattle.chunk_plain.specs.Setup.{Setup}
 use Rattle.chunk_plain.specs.Views.{Noted, ServiceView, taken_of}
 use Rattle.service_core.specs.declared.service.ServiceCore.{ServiceCore}
 use Rattle.service_core.specs.Agreement.{first_of}
-use Rattle.service_core.specs.Reading.{NotesReads, ReadsAll, noted_read, reads_in, sequences_to}
+use Rattle.service_core.specs.Reading.{NotesReads, ReadsAll, noted_read, reads_in, sequences_to, read_moment}
 use Rattle.service_core.specs.Routing.{buffer_at}
 use Rattle.service_core.specs.Taking.{Takes, places_of, noted_more}
 use Rattle.service_core.proofs.QuietLemmas.{places_below, long_still}
@@ -193,7 +193,7 @@ out_none setup first view pass taken = record { last = []; reads = (refl, refl);
 pub out_more : {S : Type 0} (setup : Setup) (core : ServiceCore S) (first : List Buffer) (index number delivered : ℕ) (start old new passed between pass : ServiceView)
     (before mid after : Intake) → number ≡ suc index → first_of setup core ≡ first
     → core.buffers.items ≡ buffers_after (first_of setup core) (history_of old)
-    → ReadsOut setup first index start old passed between before mid → ReadsAll setup core number last_count old new mid after delivered
+    → ReadsOut setup first index start old passed between before mid → ReadsAll setup core number last_count delivered (read_moment old mid) (read_moment new after)
     → ((events : List model.Event) → NotesReads setup core events old new → PassReads setup core events between pass)
     → ReadsOut setup first number start new passed pass before after
 out_more setup core first index number delivered start old new passed between pass before mid after next same buffers some reads passes =

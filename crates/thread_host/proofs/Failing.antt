@@ -12,7 +12,7 @@ use Rattle.chunk_plain.specs.Setup.{Setup}
 use Rattle.chunk_plain.specs.Views.{Noted, ServiceView}
 use Rattle.service_core.specs.declared.service.ServiceCore.{ServiceCore}
 use Rattle.service_core.specs.Agreement.{first_of}
-use Rattle.service_core.specs.Reading.{FailsAmong, NotesReads, noted_read}
+use Rattle.service_core.specs.Reading.{FailsAmong, NotesReads, noted_read, read_moment}
 use Rattle.thread_service.specs.Reading.{PassReads}
 use Rattle.thread_host.specs.Finishing.{FailsOut, ReadsOut}
 use Rattle.thread_host.specs.Jobs.{TellsUpTo}
@@ -22,7 +22,7 @@ use Rattle.thread_host.proofs.Telling.{reads_up_to, since, since_goes, since_not
 pub out_fails : {S : Type 0} (setup : Setup) (core : ServiceCore S) (first : List Buffer) (index number count : ℕ) (start old new passed between pass : ServiceView)
     (before mid after : Intake) → number ≡ suc index → index < count → first_of setup core ≡ first
     → core.buffers.items ≡ buffers_after (first_of setup core) (history_of old)
-    → ReadsOut setup first index start old passed between before mid → (fails : FailsAmong setup core number last_count old new mid after)
+    → ReadsOut setup first index start old passed between before mid → (fails : FailsAmong setup core number last_count (read_moment old mid) (read_moment new after))
     → ((events : List model.Event) → NotesReads setup core events old new → PassReads setup core events between pass)
     → FailsOut setup first count start new passed pass before after
 unfolding reads_up_to

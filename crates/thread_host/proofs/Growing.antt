@@ -8,7 +8,7 @@ use Rattle.chunk_plain.specs.Views.{ServiceView}
 use Rattle.chunk_words.specs.declared.seats.ServiceSeat.{ServiceSeat}
 use Rattle.scenario_text.specs.declared.scenario.NumberedLine.{NumberedLine}
 use Rattle.service_core.specs.declared.service.ServiceCore.{ServiceCore}
-use Rattle.service_core.specs.Reading.{ReadsAll, FailsAmong}
+use Rattle.service_core.specs.Reading.{ReadsAll, FailsAmong, read_moment}
 use Rattle.service_core.specs.Scraping.{TakesAndScrapes}
 use Rattle.service_core.specs.Taking.{Takes, places_of}
 use Rattle.run_model.specs.Collected.{may_be_collected}
@@ -40,10 +40,10 @@ scrape_grows setup lines producer taken old mid new asked scrapes = grows_more s
 
 pub read_grows : (named setup : Setup) (lines : List NumberedLine) (core : ServiceCore ServiceSeat) (number limit : ℕ) (old mid new : ServiceView)
     (before after : Intake) (result : Result ℕ WriteFault)
-    → IfOk result (λ delivered. ReadsAll setup core number limit mid new before after delivered) → OnErr result (FailsAmong setup core number limit mid new before after)
+    → IfOk result (λ delivered. ReadsAll setup core number limit delivered (read_moment mid before) (read_moment new after)) → OnErr result (FailsAmong setup core number limit (read_moment mid before) (read_moment new after))
     → Grows named lines old mid → Grows named lines old new
 read_grows named setup lines core number limit old mid new before after result reads fails =
-    let some = some_noted setup core number limit mid new before after result reads fails in
+    let some = some_noted setup core number limit (read_moment mid before) (read_moment new after) result reads fails in
     grows_more named lines old mid new (inr (inr (inl (some.0, some.1.view))))
 
 -- answers were read

@@ -17,7 +17,7 @@ use Rattle.scenario_text.specs.declared.scenario.LineKind.TheVariants.{Packet, B
 use Rattle.scenario_text.specs.declared.scenario.NumberedLine.{NumberedLine}
 use Rattle.service_core.specs.declared.service.ServiceCore.{ServiceCore}
 use Rattle.service_core.specs.Agreement.{first_of}
-use Rattle.service_core.specs.Reading.{FailsAmong, NotesReads, ReadsAll, noted_read, reads_in, sequences_to}
+use Rattle.service_core.specs.Reading.{FailsAmong, NotesReads, ReadsAll, noted_read, reads_in, sequences_to, read_moment}
 use Rattle.service_core.specs.Routing.{buffer_at}
 use Rattle.service_core.proofs.ReadingLemmas.{records_append, trace_append}
 use Rattle.service_core.proofs.RouteLemmas.{buffers_append}
@@ -142,7 +142,7 @@ same_reads setup buffers others number limit (inr same) = ap (λ (bs : List Buff
 
 -- it was read with the pass
 module _ {S : Type 0} (setup : Setup) (core : ServiceCore S) (number limit delivered : ℕ) (old new passed pass : ServiceView) (before after : Intake)
-    (reads : ReadsAll setup core number limit old new before after delivered)
+    (reads : ReadsAll setup core number limit delivered (read_moment old before) (read_moment new after))
     (passes : (events : List model.Event) → NotesReads setup core events old new → PassReads setup core events passed pass) where
   abbrev events : List model.Event
   events = reads_in setup core.buffers.items number limit
@@ -175,7 +175,7 @@ module _ {S : Type 0} (setup : Setup) (core : ServiceCore S) (number limit deliv
 
 -- behind the lock, where no write failed
 pub locked_tells : {S : Type 0} (setup : Setup) (core : ServiceCore S) (number limit : ℕ) (old new passed pass : ServiceView) (before after : Intake) (first : List Buffer)
-    → first_of setup core ≡ first → (result : Result ℕ WriteFault) → IfOk result (λ delivered. ReadsAll setup core number limit old new before after delivered)
+    → first_of setup core ≡ first → (result : Result ℕ WriteFault) → IfOk result (λ delivered. ReadsAll setup core number limit delivered (read_moment old before) (read_moment new after))
     → ((events : List model.Event) → NotesReads setup core events old new → PassReads setup core events passed pass)
     → asked_in pass.letters ≡ asked_in passed.letters → IfOk result (λ _. TellsLine setup first (Read number limit) passed pass before after)
 locked_tells setup core number limit old new passed pass before after first same (Ok delivered) reads passes asked =
@@ -192,7 +192,7 @@ some_read firsts event none =
 
 -- the reads went as far as the record whose write failed, behind any history that leads to what the buffers held
 unfoldable pub reads_up_to : {S : Type 0} (setup : Setup) (core : ServiceCore S) (number shown limit : ℕ) (old new : ServiceView) (before after : Intake)
-    (fails : FailsAmong setup core number limit old new before after) (first : List Buffer) (here stopped : List model.Event) → number ≡ shown
+    (fails : FailsAmong setup core number limit (read_moment old before) (read_moment new after)) (first : List Buffer) (here stopped : List model.Event) → number ≡ shown
     → core.buffers.items ≡ buffers_after first here → stopped ≡ here ++ (fails.firsts ++ model.Read fails.sequence fails.count ∷ [])
     → ReadsUpTo setup first (Read shown limit) here stopped fails.fails.failed
 reads_up_to setup core number shown limit old new before after fails first here stopped same held is =
@@ -214,7 +214,7 @@ reads_up_to setup core number shown limit old new before after fails first here 
     }
 
 module _ {S : Type 0} (setup : Setup) (core : ServiceCore S) (number limit : ℕ) (old new passed pass : ServiceView) (before after : Intake)
-    (fails : FailsAmong setup core number limit old new before after)
+    (fails : FailsAmong setup core number limit (read_moment old before) (read_moment new after))
     (passes : (events : List model.Event) → NotesReads setup core events old new → PassReads setup core events passed pass) where
   pub some_known : PassReads setup core (fails.firsts ++ model.Read fails.sequence fails.count ∷ []) passed pass
   some_known = passes (fails.firsts ++ model.Read fails.sequence fails.count ∷ []) fails.notes
@@ -271,7 +271,7 @@ module _ {S : Type 0} (setup : Setup) (core : ServiceCore S) (number limit : ℕ
 
 -- behind the lock
 pub locked_fails : {S : Type 0} (setup : Setup) (core : ServiceCore S) (number limit : ℕ) (old new passed pass : ServiceView) (before after : Intake) (first : List Buffer)
-    → first_of setup core ≡ first → (result : Result ℕ WriteFault) → OnErr result (FailsAmong setup core number limit old new before after)
+    → first_of setup core ≡ first → (result : Result ℕ WriteFault) → OnErr result (FailsAmong setup core number limit (read_moment old before) (read_moment new after))
     → ((events : List model.Event) → NotesReads setup core events old new → PassReads setup core events passed pass)
     → OnErr result (FailsLine setup first (Read number limit) passed pass before after)
 locked_fails setup core number limit old new passed pass before after first same (Ok delivered) fails passes = tt

@@ -6,7 +6,7 @@ ghost use Rattle.chunk_words.specs.Sits.{known_by_pass};
 ghost use Rattle.scenario_text.specs.declared.scenario.LineKind.TheVariants as line;
 ghost use Rattle.replay_model.specs.Flushes.{requests_in};
 ghost use Rattle.service_core.specs.Agreement.{KeepsRest, KeepsTaking};
-ghost use Rattle.service_core.specs.Reading.{ReadsAll, FailsAmong};
+ghost use Rattle.service_core.specs.Reading.{ReadsAll, FailsAmong, read_moment};
 ghost use Rattle.service_core.specs.Scraping.{TakesAndScrapes};
 ghost use Rattle.service_core.specs.Taking.{Takes, places_of};
 ghost use Rattle.run_model.specs.Collected.{has_asker, may_be_collected};
@@ -299,10 +299,10 @@ impl<N: HostName> Locked<N> {
             (λ _. FailsLine N.setup N.first (line.Read buffer limit)
             (known_by_pass pass.old) (known_by_pass pass.new) (O.taken out.old) (O.taken out.new)) }
         ensures reads { MatchResult result
-            (λ delivered. ReadsAll N.setup (core_of self.old.service) buffer limit
-            (view_in self.old.service) (view_in self.new.service) (O.taken out.old) (O.taken out.new) delivered)
+            (λ delivered. ReadsAll N.setup (core_of self.old.service) buffer limit delivered
+            (read_moment (view_in self.old.service) (O.taken out.old)) (read_moment (view_in self.new.service) (O.taken out.new)))
             (λ _. FailsAmong N.setup (core_of self.old.service) buffer limit
-            (view_in self.old.service) (view_in self.new.service) (O.taken out.old) (O.taken out.new)) }
+            (read_moment (view_in self.old.service) (O.taken out.old)) (read_moment (view_in self.new.service) (O.taken out.new))) }
         ensures ends { EndsTurn 2 turns.old turns.new (O.faults out.old) (O.faults out.new) (O.may_write out.new) result }
     {
         self.book.audit(&mut turns.share);

@@ -37,7 +37,7 @@ play-requires-clause-agrees c =
 
 pub play-requires-clause-open : goal.play-requires-clause-open
 play-requires-clause-open c =
-    subst (λ (s : Setup). (place : ℕ) → place < length s.writers → is_closed s c.in_ok-service.service place ≡ false) (sym c.in_ok-table.ensures.setup) c.in_ok-service.ensures.open
+    subst (λ (s : Setup). (place : ℕ) → place < length s.writers → is_closed s c.in_ok-service.service place ≡ false) (sym c.in_ok-table.ensures.setup) c.in_ok-service.ensures.is_open
 
 pub play-requires-clause-id : goal.play-requires-clause-id
 play-requires-clause-id c = sym (ap (λ (s : Setup). id_at s 0 0) c.in_ok-table.ensures.setup ∙ id_first 4294967295 (omega arith))

@@ -176,7 +176,7 @@ returns c =
       opened = λ place below.
           subst (λ (ps : List ProducerSpec). is_closed (setup_of ps writers) service place ≡ false) c.deref-6.ensures.value
           (subst (λ (ws : List WriterSpec). is_closed (setup_of c.deref-6.result.now ws) service place ≡ false) c.deref-7.ensures.value
-          (c.in_ok-service.ensures.open place (subst (λ (ws : List WriterSpec). place < length ws) (sym c.deref-7.ensures.value) below)));
+          (c.in_ok-service.ensures.is_open place (subst (λ (ws : List WriterSpec). place < length ws) (sym c.deref-7.ensures.value) below)));
       session = c.in_ok-service.ensures.session ∙ ap (λ (ws : List WriterSpec). moved Started (configured (length ws) new_session))
           c.deref-7.ensures.value;
       flags = c.in_ok-open_producers.ensures.items_if_clones_equal (λ y e. e) ∙ ap (λ (n : ℕ). replicate n true) count_producers;

@@ -62,10 +62,10 @@ producers-preserved c =
     let new : Service = c.close_producer-taken.new.self in
     let closes = c.close_producer-taken.ensures.closes in
     record {
-      serves = c.close_producer-taken.ensures.serves;
+      serves = c.close_producer-taken.ensures.stays.serves;
       first = first_stays setup (core_of mid) (core_of new) closes.fields ∙ i.first;
       closes = closes_next setup index (view_in c.args.service.now) mid new closes c.close_producer-taken.result i.closes c.close_producer-taken.ensures.takes;
-      desk = c.close_producer-taken.ensures.desk ∙ i.desk;
+      desk = c.close_producer-taken.ensures.stays.desk ∙ i.desk;
       closed = closed_next setup index (view_in c.args.service.now) mid new closes i.closed;
       opened = λ place inside above.
           closes.others place inside (λ same. absurd (omega (arith, same, above))) ∙ i.opened place inside (omega (arith, above));

@@ -32,11 +32,11 @@ buffers-preserved g c =
     let start = core_of c.args.service.now in
     record {
       stays = record {
-        serves = ok.serves;
-        keeps = keeps_both setup start core (core_of c.read_passing.new.self) i.stays.keeps ok.keeps;
-        marks = ap (λ (d : Desk). d.marks) ok.desk ∙ i.stays.marks;
+        serves = ok.leaves.serving.serves;
+        keeps = keeps_both setup start core (core_of c.read_passing.new.self) i.stays.keeps ok.leaves.keeps;
+        marks = ap (λ (d : Desk). d.marks) ok.leaves.desk ∙ i.stays.marks;
       };
-      pass = record { passes = ok.pass; known = ok.known };
+      pass = record { passes = ok.leaves.serving.passes; known = ok.leaves.serving.known };
       reads = out_more setup core (first_of setup start) c.buffers.index (c.buffers.index + 1) _ (view_in c.args.service.now) (view_in c.buffers.service)
           (view_in c.read_passing.new.self) (known_by_pass c.args.pass.now) (known_by_pass c.buffers.pass) (known_by_pass c.read_passing.new.pass)
           (g.T.Sink.taken c.args.out.now) (g.T.Sink.taken c.buffers.out) (g.T.Sink.taken c.read_passing.new.out)
@@ -65,7 +65,7 @@ pub returns-in_err-read_passing-clause-stays : goal.returns-in_err-read_passing-
 returns-in_err-read_passing-clause-stays g c =
     let i = c.buffers.invariant in let failed = c.in_err-read_passing.ensures in
     record {
-      serves = failed.serves;
-      keeps = keeps_both (setup_in c.args.table.now) (core_of c.args.service.now) (core_of c.buffers.service) (core_of c.read_passing.new.self) i.stays.keeps failed.keeps;
-      marks = ap (λ (d : Desk). d.marks) failed.desk ∙ i.stays.marks;
+      serves = failed.leaves.serving.serves;
+      keeps = keeps_both (setup_in c.args.table.now) (core_of c.args.service.now) (core_of c.buffers.service) (core_of c.read_passing.new.self) i.stays.keeps failed.leaves.keeps;
+      marks = ap (λ (d : Desk). d.marks) failed.leaves.desk ∙ i.stays.marks;
     }

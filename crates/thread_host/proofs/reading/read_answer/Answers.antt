@@ -23,7 +23,7 @@ pub unreachable-requires : goal.unreachable-requires
 unreachable-requires c =
     let flush = c.answer_of-flush.result.0 in
     let session = only_session (core_of c.args.service.now) (core_of c.answer_of-flush.new.self) c.answer_of-flush.ensures.only in
-    let low = c.answer_of-flush.ensures.asked in let same = session.requests in
+    let low = c.answer_of-flush.ensures.answer.asked in let same = session.requests in
     let newer = c.is_newer.ensures.0 c.if-is_newer.true in
     let none = accepted (core_of c.answer_of-flush.new.self).session flush (session.state ∙ c.requires.tally.started) (omega (arith, newer)) (omega (arith, low, same)) in
     absurd (let wrong = sym c.in-Err.is ∙ c.acknowledge.ensures.answer ∙ ap (λ o. answered_as o tt) none in cc)
@@ -36,7 +36,7 @@ add-requires-clause-place c = let many = c.requires.tally.tallied.1.many in let 
 
 pub add-requires-clause-room : goal.add-requires-clause-room
 add-requires-clause-room c =
-    let low = c.answer_of-flush.ensures.asked in let made = c.requires.serves.asked in let room = c.requires.tally.room in omega (arith, low, made, room)
+    let low = c.answer_of-flush.ensures.answer.asked in let made = c.requires.serves.asked in let room = c.requires.tally.room in omega (arith, low, made, room)
 
 pub add-requires-clause-newer : goal.add-requires-clause-newer
 add-requires-clause-newer c = c.is_newer.ensures.0 c.if-is_newer.true
@@ -49,14 +49,14 @@ returns-in-Ok c =
     let writers : ℕ = length (setup_in c.args.table.now).writers in
     let gave = c.answer_of-flush.ensures in let took = c.acknowledge.ensures in
     let session = only_session (core_of old) (core_of mid) gave.only in
-    let low = gave.asked in let same = session.requests in let made = c.requires.serves.asked in
+    let low = gave.answer.asked in let same = session.requests in let made = c.requires.serves.asked in
     let newer = c.is_newer.ensures.0 c.if-is_newer.true in
     let none = accepted (core_of mid).session flush (session.state ∙ c.requires.tally.started) (omega (arith, newer)) (omega (arith, low, same)) in
     let seen = ap known_by_service took.keeps.seat in
     let desk = ap desk_by_service took.keeps.seat ∙ gave.desk in
     let hears : HearsLast place (view_in old) (view_in new) =
-    hears_last (view_in old) (view_in new) place (place + 1) flush chunks (omega arith) (seen ∙ gave.view) (omega (arith, low, made)) gave.heard
-    (subst (λ (v : ServiceView). IsLastAnswer v (place + 1 - 1) flush chunks) (sym seen) gave.last) in
+    hears_last (view_in old) (view_in new) place (place + 1) flush chunks (omega arith) (seen ∙ gave.answer.view) (omega (arith, low, made)) gave.answer.heard
+    (subst (λ (v : ServiceView). IsLastAnswer v (place + 1 - 1) flush chunks) (sym seen) gave.answer.last) in
     let answer : Answer = record { flush = flush; chunks = chunks } in
     let is = acknowledged (core_of mid).session (core_of new).session flush place (place + 1) answer (omega arith) none took.after in
     record {
@@ -76,7 +76,7 @@ returns-in-Ok c =
         tallied = λ requests tally. subst (λ (v : ServiceView). IsTally requests writers v.letters c.add.new.self) (sym hears.view)
             (c.add.ensures.tally requests writers (view_in old).letters tally);
       };
-      heard = heard_of (view_in old) (view_in new) (desk_in old) (desk_in new) place (place + 1) hears (omega arith) desk gave.told;
+      heard = heard_of (view_in old) (view_in new) (desk_in old) (desk_in new) place (place + 1) hears (omega arith) desk gave.answer.told;
     }
 
 pub returns-else-is_newer : goal.returns-else-is_newer
@@ -86,9 +86,9 @@ returns-else-is_newer c =
     let place : ℕ = c.args.place in
     let writers : ℕ = length (setup_in c.args.table.now).writers in
     let gave = c.answer_of-flush.ensures in
-    let low = gave.asked in let made = c.requires.serves.asked in
+    let low = gave.answer.asked in let made = c.requires.serves.asked in
     let hears : HearsLast place (view_in old) (view_in new) =
-    hears_last (view_in old) (view_in new) place (place + 1) flush chunks (omega arith) gave.view (omega (arith, low, made)) gave.heard gave.last in
+    hears_last (view_in old) (view_in new) place (place + 1) flush chunks (omega arith) gave.answer.view (omega (arith, low, made)) gave.answer.heard gave.answer.last in
     let older = none_newer _ flush c.is_newer.result c.is_newer.ensures.1 c.if-is_newer.false in
     record {
       serves = gave.serves;
@@ -109,5 +109,5 @@ returns-else-is_newer c =
             subst (λ (v : ServiceView). IsTally requests writers v.letters c.args.tally.now) (sym hears.view)
             (tally_again requests writers place flush chunks (view_in old).letters c.args.tally.now (omega (arith, read, older)) fits tally);
       };
-      heard = heard_of (view_in old) (view_in new) (desk_in old) (desk_in new) place (place + 1) hears (omega arith) gave.desk gave.told;
+      heard = heard_of (view_in old) (view_in new) (desk_in old) (desk_in new) place (place + 1) hears (omega arith) gave.desk gave.answer.told;
     }

@@ -43,7 +43,7 @@ producers-preserved c =
     let last = c.close_producer-taken.ensures.takes in
     let many = i.serves.agrees.many in
     record {
-      serves = c.close_producer-taken.ensures.serves;
+      serves = c.close_producer-taken.ensures.stays.serves;
       specs = closes.fields.specs ∙ i.specs;
       commits = ap (λ (v : ServiceView). v.commits) last.view
           ∙ takes_own setup (places_of number 0 setup.writers) c.close_producer-taken.result old last.between last.takes ∙ i.commits;

@@ -38,17 +38,17 @@ returns-in-Ok-clause-host g c =
     let was = c.requires.host in
     let old = c.args.self.now in
     let call = c.commit in
-    let step = call.ensures.step in
-    let served = served_is means old.table call.new.table old.helper.service call.new.self was.stands.served step call.ensures.agrees in
+    let step = call.ensures.leaves.service.step in
+    let served = served_is means old.table call.new.table old.helper.service call.new.self was.stands.served step call.ensures.leaves.service.agrees in
     let stands = served_stands means old.table call.new.table old.writers.items old.helper.service call.new.self was.stands step served in
-    opened_still means old _ was stands step.setup_stays call.ensures.keeps refl refl
+    opened_still means old _ was stands step.setup_stays call.ensures.leaves.service.keeps refl refl
 
 pub returns-in-Ok-clause-writers : goal.returns-in-Ok-clause-writers
 returns-in-Ok-clause-writers g c = record {
   writers = refl;
   flushes = refl;
   specs = refl;
-  views = λ place core at. (c.commit.ensures.step.writers_stay core.seat (c.requires.host.stands.seated place core at).sits).1;
+  views = λ place core at. (c.commit.ensures.leaves.service.step.writers_stay core.seat (c.requires.host.stands.seated place core at).sits).1;
 }
 
 pub returns-in-Ok-clause-done : goal.returns-in-Ok-clause-done
@@ -109,7 +109,7 @@ returns-in-Ok-clause-done g c taken =
     let agrees = was.stands.served.agrees in
     let opened = open_is setup before old.helper.service (producer_of setup place) agrees
     (was.opened (producer_of setup place) (agrees.routed.producers place may.below) c.requires.open) place may.below refl in
-    committed_done means laws place chunk old _ was.stands.served opened call.ensures.step call.ensures.keeps target noted call.ensures.told
+    committed_done means laws place chunk old _ was.stands.served opened call.ensures.leaves.service.step call.ensures.leaves.service.keeps target noted call.ensures.leaves.told
     c.from.result answer taken
 
 pub returns-in-Err-clause-host : goal.returns-in-Err-clause-host
@@ -118,10 +118,10 @@ returns-in-Err-clause-host g c =
     let was = c.requires.host in
     let old = c.args.self.now in
     let call = c.commit in
-    let step = call.ensures.step in
-    let served = served_is means old.table call.new.table old.helper.service call.new.self was.stands.served step call.ensures.agrees in
+    let step = call.ensures.leaves.service.step in
+    let served = served_is means old.table call.new.table old.helper.service call.new.self was.stands.served step call.ensures.leaves.service.agrees in
     let stands = served_stands means old.table call.new.table old.writers.items old.helper.service call.new.self was.stands step served in
-    opened_still means old _ was stands step.setup_stays call.ensures.keeps refl refl
+    opened_still means old _ was stands step.setup_stays call.ensures.leaves.service.keeps refl refl
 
 pub returns-in-Err-clause-done : goal.returns-in-Err-clause-done
 returns-in-Err-clause-done g c taken =

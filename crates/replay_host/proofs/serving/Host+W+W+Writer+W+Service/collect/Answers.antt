@@ -12,17 +12,17 @@ returns-clause-host g c =
     let means = g.W.Words.means in
     let was = c.requires.host in
     let setup : Setup = means.setup c.args.self.now.table in
-    let step = c.collect.ensures.step in
-    let served = served_is means c.args.self.now.table c.collect.new.table c.args.self.now.helper.service c.collect.new.self was.stands.served step c.collect.ensures.agrees in
+    let step = c.collect.ensures.leaves.step in
+    let served = served_is means c.args.self.now.table c.collect.new.table c.args.self.now.helper.service c.collect.new.self was.stands.served step c.collect.ensures.leaves.agrees in
     let stands = served_stands means c.args.self.now.table c.collect.new.table c.args.self.now.writers.items c.args.self.now.helper.service c.collect.new.self was.stands step served in
-    opened_still means c.args.self.now _ was stands step.setup_stays c.collect.ensures.keeps refl refl
+    opened_still means c.args.self.now _ was stands step.setup_stays c.collect.ensures.leaves.keeps refl refl
 
 pub returns-clause-writers : goal.returns-clause-writers
 returns-clause-writers g c = record {
   writers = refl;
   flushes = refl;
   specs = refl;
-  views = λ place core at. (c.collect.ensures.step.writers_stay core.seat (c.requires.host.stands.seated place core at).sits).1;
+  views = λ place core at. (c.collect.ensures.leaves.step.writers_stay core.seat (c.requires.host.stands.seated place core at).sits).1;
 }
 
 pub returns-clause-done : goal.returns-clause-done
@@ -39,4 +39,4 @@ returns-clause-done g c intake =
     let setup : Setup = means.setup old.table in
     let view : ServiceView = means.service_view old.table old.helper.service.seat in
     let opened = open_is setup view old.helper.service c.args.producer was.stands.served.agrees (was.opened c.args.producer c.requires.producer c.requires.open) in
-    collect_done means laws c.args.producer c.collect.result old _ was.stands.served c.collect.ensures.step c.collect.ensures.keeps opened c.collect.ensures.takes c.collect.ensures.told intake
+    collect_done means laws c.args.producer c.collect.result old _ was.stands.served c.collect.ensures.leaves.step c.collect.ensures.leaves.keeps opened c.collect.ensures.takes c.collect.ensures.told intake

@@ -2,7 +2,7 @@
 use Rattle.std.proofs.Common.{IfOk, OnErr, refl, subst}
 use Rattle.chunk_plain.specs.Setup.{Setup}
 use Rattle.chunk_plain.specs.Views.{ServiceView}
-use Rattle.service_core.specs.Reading.{FailsAmong, ReadsAll}
+use Rattle.service_core.specs.Reading.{FailsAmong, ReadsAll, read_moment}
 use Rattle.replay_host.proofs.ReadLemmas.{read_done, read_fails}
 use Rattle.replay_host.proofs.RowLemmas.{AreLaws}
 use Rattle.replay_host.proofs.ServedLemmas.{served_stands, served_is, opened_still}
@@ -17,19 +17,19 @@ returns-in-Ok-clause-host g c =
     let setup : Setup = means.setup old.table in
     let before : ServiceView = means.service_view old.table old.helper.service.seat in
     let view : ServiceView = means.service_view call.new.table call.new.self.seat in
-    let step = call.ensures.step in
-    let reads = subst (λ r. IfOk r (λ delivered. ReadsAll setup old.helper.service c.args.buffer c.args.limit before view
-    (g.O.Sink.taken c.args.out.now) (g.O.Sink.taken call.new.out) delivered)) c.in-Ok.is call.ensures.reads in
-    let served = served_is means old.table call.new.table old.helper.service call.new.self was.stands.served step call.ensures.agrees in
+    let step = call.ensures.leaves.service.step in
+    let reads = subst (λ r. IfOk r (λ delivered. ReadsAll setup old.helper.service c.args.buffer c.args.limit delivered
+    (read_moment before (g.O.Sink.taken c.args.out.now)) (read_moment view (g.O.Sink.taken call.new.out)))) c.in-Ok.is call.ensures.reads in
+    let served = served_is means old.table call.new.table old.helper.service call.new.self was.stands.served step call.ensures.leaves.service.agrees in
     let stands = served_stands means old.table call.new.table old.writers.items old.helper.service call.new.self was.stands step served in
-    opened_still means old _ was stands step.setup_stays call.ensures.keeps refl refl
+    opened_still means old _ was stands step.setup_stays call.ensures.leaves.service.keeps refl refl
 
 pub returns-in-Ok-clause-writers : goal.returns-in-Ok-clause-writers
 returns-in-Ok-clause-writers g c = record {
   writers = refl;
   flushes = refl;
   specs = refl;
-  views = λ place core at. (c.read_buffer.ensures.step.writers_stay core.seat (c.requires.host.stands.seated place core at).sits).1;
+  views = λ place core at. (c.read_buffer.ensures.leaves.service.step.writers_stay core.seat (c.requires.host.stands.seated place core at).sits).1;
 }
 
 pub returns-in-Ok-clause-done : goal.returns-in-Ok-clause-done
@@ -46,10 +46,10 @@ returns-in-Ok-clause-done g c =
     let setup : Setup = means.setup old.table in
     let before : ServiceView = means.service_view old.table old.helper.service.seat in
     let view : ServiceView = means.service_view call.new.table call.new.self.seat in
-    let reads = subst (λ r. IfOk r (λ delivered. ReadsAll setup old.helper.service c.args.buffer c.args.limit before view
-    (g.O.Sink.taken c.args.out.now) (g.O.Sink.taken call.new.out) delivered)) c.in-Ok.is call.ensures.reads in
+    let reads = subst (λ r. IfOk r (λ delivered. ReadsAll setup old.helper.service c.args.buffer c.args.limit delivered
+    (read_moment before (g.O.Sink.taken c.args.out.now)) (read_moment view (g.O.Sink.taken call.new.out)))) c.in-Ok.is call.ensures.reads in
     read_done means laws c.args.buffer c.args.limit _ old _ (g.O.Sink.taken c.args.out.now) (g.O.Sink.taken call.new.out)
-    c.requires.host.stands.served call.ensures.step call.ensures.keeps reads call.ensures.told
+    c.requires.host.stands.served call.ensures.leaves.service.step call.ensures.leaves.service.keeps reads call.ensures.leaves.told
 
 pub returns-in-Err-clause-host : goal.returns-in-Err-clause-host
 returns-in-Err-clause-host g c =
@@ -60,19 +60,19 @@ returns-in-Err-clause-host g c =
     let setup : Setup = means.setup old.table in
     let before : ServiceView = means.service_view old.table old.helper.service.seat in
     let view : ServiceView = means.service_view call.new.table call.new.self.seat in
-    let step = call.ensures.step in
-    let fails = subst (λ r. OnErr r (FailsAmong setup old.helper.service c.args.buffer c.args.limit before view
-    (g.O.Sink.taken c.args.out.now) (g.O.Sink.taken call.new.out))) c.in-Err.is call.ensures.fails in
-    let served = served_is means old.table call.new.table old.helper.service call.new.self was.stands.served step call.ensures.agrees in
+    let step = call.ensures.leaves.service.step in
+    let fails = subst (λ r. OnErr r (FailsAmong setup old.helper.service c.args.buffer c.args.limit
+    (read_moment before (g.O.Sink.taken c.args.out.now)) (read_moment view (g.O.Sink.taken call.new.out)))) c.in-Err.is call.ensures.fails in
+    let served = served_is means old.table call.new.table old.helper.service call.new.self was.stands.served step call.ensures.leaves.service.agrees in
     let stands = served_stands means old.table call.new.table old.writers.items old.helper.service call.new.self was.stands step served in
-    opened_still means old _ was stands step.setup_stays call.ensures.keeps refl refl
+    opened_still means old _ was stands step.setup_stays call.ensures.leaves.service.keeps refl refl
 
 pub returns-in-Err-clause-writers : goal.returns-in-Err-clause-writers
 returns-in-Err-clause-writers g c = record {
   writers = refl;
   flushes = refl;
   specs = refl;
-  views = λ place core at. (c.read_buffer.ensures.step.writers_stay core.seat (c.requires.host.stands.seated place core at).sits).1;
+  views = λ place core at. (c.read_buffer.ensures.leaves.service.step.writers_stay core.seat (c.requires.host.stands.seated place core at).sits).1;
 }
 
 pub returns-in-Err-clause-fails : goal.returns-in-Err-clause-fails
@@ -83,7 +83,7 @@ returns-in-Err-clause-fails g c =
     let setup : Setup = means.setup old.table in
     let before : ServiceView = means.service_view old.table old.helper.service.seat in
     let view : ServiceView = means.service_view call.new.table call.new.self.seat in
-    let fails = subst (λ r. OnErr r (FailsAmong setup old.helper.service c.args.buffer c.args.limit before view
-    (g.O.Sink.taken c.args.out.now) (g.O.Sink.taken call.new.out))) c.in-Err.is call.ensures.fails in
+    let fails = subst (λ r. OnErr r (FailsAmong setup old.helper.service c.args.buffer c.args.limit
+    (read_moment before (g.O.Sink.taken c.args.out.now)) (read_moment view (g.O.Sink.taken call.new.out)))) c.in-Err.is call.ensures.fails in
     read_fails means c.args.buffer c.args.limit old _ (g.O.Sink.taken c.args.out.now) (g.O.Sink.taken call.new.out)
-    c.requires.host.stands.served call.ensures.step call.ensures.keeps fails call.ensures.told
+    c.requires.host.stands.served call.ensures.leaves.service.step call.ensures.leaves.service.keeps fails call.ensures.leaves.told

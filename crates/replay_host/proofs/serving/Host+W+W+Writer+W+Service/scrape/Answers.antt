@@ -13,19 +13,19 @@ returns-clause-host g c =
     let means = g.W.Words.means in
     let was = c.requires.host in
     let setup : Setup = means.setup c.args.self.now.table in
-    let step = c.scrape.ensures.step in
+    let step = c.scrape.ensures.leaves.step in
     let old = c.args.self.now in
     let new = c.scrape.new in
-    let served = served_is means old.table new.table old.helper.service new.self was.stands.served step c.scrape.ensures.agrees in
+    let served = served_is means old.table new.table old.helper.service new.self was.stands.served step c.scrape.ensures.leaves.agrees in
     let stands = served_stands means old.table new.table old.writers.items old.helper.service new.self was.stands step served in
-    opened_still means old _ was stands step.setup_stays c.scrape.ensures.keeps refl refl
+    opened_still means old _ was stands step.setup_stays c.scrape.ensures.leaves.keeps refl refl
 
 pub returns-clause-writers : goal.returns-clause-writers
 returns-clause-writers g c = record {
   writers = refl;
   flushes = refl;
   specs = refl;
-  views = λ place core at. (c.scrape.ensures.step.writers_stay core.seat (c.requires.host.stands.seated place core at).sits).1;
+  views = λ place core at. (c.scrape.ensures.leaves.step.writers_stay core.seat (c.requires.host.stands.seated place core at).sits).1;
 }
 
 pub returns-clause-done : goal.returns-clause-done
@@ -45,4 +45,4 @@ returns-clause-done g c intake =
     (was.opened c.args.producer c.requires.producer c.requires.open) in
     let done = c.scrape.ensures in
     scrape_done means laws c.args.producer c.scrape.result old _ was.stands
-    done.step done.keeps done.agrees opened done.scrapes done.told intake
+    done.leaves.step done.leaves.keeps done.leaves.agrees opened done.scrapes done.told intake

@@ -19,8 +19,8 @@ loop-index-preserved g c =
     let below = subst (λ (n : ℕ). c.loop-index.index < n) c.requires.buffers c.loop-index-test.true in
     record {
       reads = reads_more g.W.Words.means c.args.self.now (g.O.Sink.taken c.args.out.now) c.loop-index.index c.loop-index.self _
-          (g.O.Sink.taken c.loop-index.out) (g.O.Sink.taken c.read_buffer.new.out) below c.loop-index.invariant.reads call.agrees call.step
-          call.keeps
+          (g.O.Sink.taken c.loop-index.out) (g.O.Sink.taken c.read_buffer.new.out) below c.loop-index.invariant.reads call.leaves.service.agrees call.leaves.service.step
+          call.leaves.service.keeps
           c.in_ok-read_buffer.field-0 call.reads refl refl;
       steady = call.count ∙ c.loop-index.invariant.steady;
       may = call.goes_on;

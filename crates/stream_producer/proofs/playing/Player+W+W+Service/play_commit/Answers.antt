@@ -10,12 +10,23 @@ use Rattle.stream_producer.specs.History.{source_of}
 use Rattle.stream_producer.proofs.CallLemmas.{payload_long, image_shown, commit_played}
 use Rattle.stream_producer.proofs.playing.Player+W+W+Service.play_commit.Goals as goal
 
-pub commit-answer-requires-clause-size : goal.commit-answer-requires-clause-size
-commit-answer-requires-clause-size g c =
-    payload_long g.W.Words.means (limits_value c.args.limits.now) (commit_value c.args.commit) c.args.self.now c.args.self.now
-    c.requires.stands
-    c.requires.fits c.requires.frame c.deref.result.now c.from.result c.from-2.result c.deref-2.result.now
-    c.deref.ensures.0 c.from.ensures c.from-2.ensures (c.deref-2.ensures.value ∙ c.fill.ensures.bytes)
+pub commit-answer-requires-clause-image : goal.commit-answer-requires-clause-image
+commit-answer-requires-clause-image g c =
+    let from = c.from-2.ensures in
+    let frame = c.requires.frame in
+    let least = frame.least in
+    let most = frame.most in
+    let many = c.requires.fits.many in
+    record {
+      least = omega (arith, from, least);
+      most = omega (arith, from, most, many);
+      is_open = c.requires.stands.opened (c.from-2.result + 1 - 2) (omega (arith, from, least, most, many));
+      size = payload_long g.W.Words.means (limits_value c.args.limits.now) (commit_value c.args.commit) c.args.self.now c.args.self.now c.requires.stands
+          c.requires.fits frame c.deref.result.now c.from.result c.from-2.result c.deref-2.result.now
+          c.deref.ensures.0 c.from.ensures from (c.deref-2.ensures.value ∙ c.fill.ensures.bytes);
+      count = frame.header.count;
+      flags = frame.header.flags;
+    }
 
 pub returns-then-is_refused : goal.returns-then-is_refused
 returns-then-is_refused g c = record {
@@ -45,7 +56,7 @@ returns-then-is_refused g c = record {
       commit_played means limits commit old _ c.requires.stands call.result true place image patches here
       (image_shown means limits commit old old c.requires.stands c.deref.result.now c.from.result c.from-2.result c.deref-2.result.now
       c.deref.ensures.0 c.from.ensures c.from-2.ensures (c.deref-2.ensures.value ∙ c.fill.ensures.bytes))
-      given call.ensures.agrees call.ensures.step call.ensures.keeps call.ensures.wrong call.ensures.outcome call.ensures.noted
+      given call.ensures.leaves.service.agrees call.ensures.leaves.service.step call.ensures.leaves.service.keeps call.ensures.wrong call.ensures.outcome call.ensures.noted
       (sym c.if-is_refused.true ∙ c.is_refused.ensures)
       commits raises taken;
 }
@@ -77,7 +88,7 @@ returns-else-is_refused g c = record {
       commit_played means limits commit old _ c.requires.stands call.result false place image patches here
       (image_shown means limits commit old old c.requires.stands c.deref.result.now c.from.result c.from-2.result c.deref-2.result.now
       c.deref.ensures.0 c.from.ensures c.from-2.ensures (c.deref-2.ensures.value ∙ c.fill.ensures.bytes))
-      given call.ensures.agrees call.ensures.step call.ensures.keeps call.ensures.wrong call.ensures.outcome call.ensures.noted
+      given call.ensures.leaves.service.agrees call.ensures.leaves.service.step call.ensures.leaves.service.keeps call.ensures.wrong call.ensures.outcome call.ensures.noted
       (sym c.if-is_refused.false ∙ c.is_refused.ensures)
       commits raises taken;
 }

@@ -7,7 +7,7 @@ pub returns-in-Ok-clause-plays : goal.returns-in-Ok-clause-plays
 returns-in-Ok-clause-plays g c limits =
     let call = c.read_buffer in
     read_played g.W.Words.means limits c.args.buffer c.args.self.now _ (g.O.Sink.taken c.args.out.now) (g.O.Sink.taken call.new.out)
-    c.requires.stands call.ensures.agrees call.ensures.step call.ensures.keeps _ c.in-Ok.ensures.reads refl refl
+    c.requires.stands call.ensures.leaves.service.agrees call.ensures.leaves.service.step call.ensures.leaves.service.keeps _ c.in-Ok.ensures.reads refl refl
 
 pub returns-in-Err-clause-part : goal.returns-in-Err-clause-part
 returns-in-Err-clause-part g c limits =

@@ -149,7 +149,7 @@ returns c =
       opened = λ place below.
           subst (λ (ps : List ProducerSpec). is_closed (setup_of ps writers) service place ≡ false) c.deref-7.ensures.value
           (subst (λ (ws : List WriterSpec). is_closed (setup_of c.deref-7.result.now ws) service place ≡ false) writers_there
-          (c.in_ok-service.ensures.open place (subst (λ (ws : List WriterSpec). place < length ws) (sym writers_there) below)));
+          (c.in_ok-service.ensures.is_open place (subst (λ (ws : List WriterSpec). place < length ws) (sym writers_there) below)));
       limits = c.in_ok-make.ensures.limits ∙ c.frame_limits.ensures;
       feeding = c.in_ok-make.ensures.feeding;
       reading = c.in_ok-make.ensures.reading;

@@ -145,7 +145,7 @@ returns c =
     setup_is ∙ sym (ap (λ (ps : List ProducerSpec). setup_of ps c.deref-7.result.now) c.deref-6.ensures.value ∙ ap (setup_of specs)
     c.deref-7.ensures.value) in
     let seen : serving.view_in service ≡ (first_world (setup_in table)).service =
-    ap known_by_service c.in_ok-service.ensures.seat ∙ c.pass-pass.ensures.view ∙ c.in_ok-table.ensures.service_view in
+    ap known_by_service c.in_ok-service.ensures.made.seat_is ∙ c.pass-pass.ensures.view ∙ c.in_ok-table.ensures.service_view in
     let none : IsUnused (length c.deref-7.result.now) (known_by_service c.pass-pass.new.seat) =
     subst (λ (ws : List WriterSpec). IsUnused (length ws) (known_by_service c.pass-pass.new.seat)) (laid ∙ sym c.deref-7.ensures.value)
     (subst (IsUnused (length (setup_in table).writers)) (sym (c.pass-pass.ensures.view ∙ c.in_ok-table.ensures.service_view))
@@ -154,9 +154,9 @@ returns c =
     is_served (parts_of scenario) table service (length c.deref-7.result.now) (c.in_ok-service.ensures.serves table c.pass-pass.ensures.seat again none
     (ap (λ (v : ServiceView). asked_in v.letters) (c.pass-pass.ensures.view ∙ c.in_ok-table.ensures.service_view))) laid
     (λ place below. subst (λ (s : Setup). is_closed s (serving.core_of service) place ≡ false) (sym again)
-    (c.in_ok-service.ensures.open place (subst (λ (ws : List WriterSpec). place < length ws) (sym c.deref-7.ensures.value) below)))
-    (c.in_ok-service.ensures.specs ∙ c.deref-5.ensures.value ∙ c.in_ok-buffers.ensures ∙ ap (map buffer_asked) c.deref-2.ensures.value)
-    seen c.in_ok-service.ensures.session in
+    (c.in_ok-service.ensures.made.is_open place (subst (λ (ws : List WriterSpec). place < length ws) (sym c.deref-7.ensures.value) below)))
+    (c.in_ok-service.ensures.made.specs ∙ c.deref-5.ensures.value ∙ c.in_ok-buffers.ensures ∙ ap (map buffer_asked) c.deref-2.ensures.value)
+    seen c.in_ok-service.ensures.made.session in
     let known : (first_world (setup_in table)).service ≡ _ = sym (c.pass-pass.ensures.known ∙ c.in_ok-table.ensures.service_view) in
     record {
       host = record {

@@ -66,7 +66,7 @@ returns-clause-service c =
     subst (λ (o : Option Service). IfSome o (λ before. KeepsServing setup (serving.core_of before) (serving.core_of c.settle.new.self))) (sym c.in-Some.is)
     (settle_keeps setup (serving.core_of first) (serving.core_of c.end_writers.new.service) (serving.core_of c.read_answers.new.service)
     (serving.core_of c.compare.new.self) (serving.core_of c.mark.new.self) (serving.core_of c.settle.new.self) c.end_writers.ensures.learns.only
-    c.read_answers.ensures.leaves.keeps c.read_answers.ensures.leaves.session c.compare.ensures.only c.mark.ensures.only c.settle.ensures.keeps)
+    c.read_answers.ensures.leaves.keeps c.read_answers.ensures.leaves.session c.compare.ensures.same.only c.mark.ensures.same.only c.settle.ensures.keeps)
 
 pub returns-clause-takes : goal.returns-clause-takes
 returns-clause-takes c =
@@ -77,20 +77,20 @@ returns-clause-takes c =
     × TakesAllOut setup (length setup.ranges) view (serving.view_in last))) (sym c.in-Some.is) (
       heard,
       subst (λ (v : ServiceView). IsHearing (length setup.writers) v heard) c.end_writers.ensures.learns.view c.read_answers.ensures.hears,
-      subst (λ (v : ServiceView). TakesAllOut setup (length setup.ranges) v (serving.view_in last)) (c.mark.ensures.view ∙ c.compare.ensures.view) c.settle.ensures.takes,
+      subst (λ (v : ServiceView). TakesAllOut setup (length setup.ranges) v (serving.view_in last)) (c.mark.ensures.same.view ∙ c.compare.ensures.same.view) c.settle.ensures.takes,
     )
 
 -- no request was made behind those that the pass knows
 pub returns-clause-requests : goal.returns-clause-requests
 returns-clause-requests c =
-    ap asked_in (c.settle.ensures.letters ∙ ap (λ (v : ServiceView). v.letters) (c.mark.ensures.view ∙ c.compare.ensures.view)) ∙ c.compare.ensures.goes_on.asked
+    ap asked_in (c.settle.ensures.stays.letters ∙ ap (λ (v : ServiceView). v.letters) (c.mark.ensures.same.view ∙ c.compare.ensures.same.view)) ∙ c.compare.ensures.goes_on.asked
 
 -- the last request's answer is read of each writer, since the writer told of it
 pub returns-clause-answered : goal.returns-clause-answered
 returns-clause-answered c have =
     let view = serving.view_in c.read_answers.new.service in
     let same : (serving.view_in c.settle.new.self).letters ≡ view.letters =
-    c.settle.ensures.letters ∙ ap (λ (v : ServiceView). v.letters) (c.mark.ensures.view ∙ c.compare.ensures.view) in
+    c.settle.ensures.stays.letters ∙ ap (λ (v : ServiceView). v.letters) (c.mark.ensures.same.view ∙ c.compare.ensures.same.view) in
     subst (λ (letters : List Letter). 0 < asked_in letters → (place : ℕ) → place < length (setup_in c.args.self.table).writers
     → (n : ℕ) × (chunks : ℕ) × At letters n (Heard place (asked_in letters) chunks)) (sym same)
     (λ some place inside.
@@ -118,11 +118,11 @@ returns-clause-settled c scenario host played =
     let settles = c.settle.ensures in
     let reads = c.read_answers.ensures in
     let heard_view = serving.view_in c.read_answers.new.service in
-    let marked_view : serving.view_in marked ≡ heard_view = c.mark.ensures.view ∙ c.compare.ensures.view in
+    let marked_view : serving.view_in marked ≡ heard_view = c.mark.ensures.same.view ∙ c.compare.ensures.same.view in
     let writers : ℕ = length (setup_in table).writers in
     let hears = subst (λ (v : ServiceView). IsHearing writers v heard_view) ends.learns.view reads.hears in
     let letters = hears_letters writers (serving.view_in first) heard_view hears in
-    let letters_same : (serving.view_in last).letters ≡ heard_view.letters = settles.letters ∙ ap (λ (v : ServiceView). v.letters) marked_view in
+    let letters_same : (serving.view_in last).letters ≡ heard_view.letters = settles.stays.letters ∙ ap (λ (v : ServiceView). v.letters) marked_view in
     let desk_told : (serving.desk_in c.compare.new.self).told ≡ (serving.desk_in mid).told =
     ap (λ (d : Desk). d.told) c.compare.ensures.desk ∙ ap (λ (d : Desk). d.told) reads.leaves.desk in
     let looks_same : length (serving.view_in mid).looks ≡ length (serving.view_in marked).looks =
@@ -130,7 +130,7 @@ returns-clause-settled c scenario host played =
     let seats : List WriterSeat = c.end_writers.new.seats.items in
     let was = subst (λ (o : Option Service). IsSomeAnd o (IsServed scenario table)) c.in-Some.is host.served in
     let keeps = settle_keeps (setup_in table) (serving.core_of first) (serving.core_of mid) (serving.core_of c.read_answers.new.service)
-    (serving.core_of c.compare.new.self) (serving.core_of marked) (serving.core_of last) ends.learns.only reads.leaves.keeps reads.leaves.session c.compare.ensures.only c.mark.ensures.only settles.keeps in
+    (serving.core_of c.compare.new.self) (serving.core_of marked) (serving.core_of last) ends.learns.only reads.leaves.keeps reads.leaves.session c.compare.ensures.same.only c.mark.ensures.same.only settles.keeps in
     let done = ends.done scenario.lines played in
     let wrote : List SequenceCounts = c.end_writers.new.sequences in
     let long = c.end_writers.auto.sequences in
@@ -139,14 +139,14 @@ returns-clause-settled c scenario host played =
       record {
         laid = host.laid;
         producers = host.producers;
-        served = served_on scenario table first last was settles.serves keeps
+        served = served_on scenario table first last was settles.stays.serves keeps
             (settles.own ∙ ap (λ (v : ServiceView). v.commits) marked_view ∙ ap (λ (v : ServiceView). v.commits) letters.2)
             (λ sequence. takes_out_none (setup_in table) (length (setup_in table).ranges) (serving.view_in marked) (serving.view_in last) settles.takes sequence
             ∙ ap (λ (v : ServiceView). has_part sequence v.events) marked_view ∙ ap (λ (v : ServiceView). has_part sequence v.events) letters.2)
             (ap asked_in letters_same ∙ hears_asked writers (serving.view_in first) heard_view hears)
             (same_ordered heard_view.letters (serving.view_in last).letters letters_same (hears_ordered writers (serving.view_in first) heard_view hears was.in_order))
             (settle_answers (setup_in table) writers (serving.core_of first) (serving.core_of mid) (serving.core_of c.read_answers.new.service)
-            (serving.core_of c.compare.new.self) (serving.core_of marked) (serving.core_of last) ends.learns.only c.compare.ensures.only c.mark.ensures.only settles.keeps
+            (serving.core_of c.compare.new.self) (serving.core_of marked) (serving.core_of last) ends.learns.only c.compare.ensures.same.only c.mark.ensures.same.only settles.keeps
             (ap (λ (v : ServiceView). v.letters) ends.learns.view) letters_same reads.leaves.kept was.kept);
         many = ends.seats.0;
         done = subst (λ (xs : List SequenceCounts). AreDoneSeats scenario.lines table seats xs)
@@ -164,7 +164,7 @@ returns-clause-settled c scenario host played =
             (subst (λ (p : ℕ). length heard.tale.begun ≤ (taken_of (serving.view_in last) p).count) heard.place_is taken);
         stood = marks.world;
         number = length (serving.desk_in c.compare.new.self).marks;
-        marked = subst (λ (d : Desk). At d.marks (length (serving.desk_in c.compare.new.self).marks) marks.world) (sym (settles.desk ∙ marks.desk_is))
+        marked = subst (λ (d : Desk). At d.marks (length (serving.desk_in c.compare.new.self).marks) marks.world) (sym (settles.stays.desk ∙ marks.desk_is))
             (at_seam (serving.desk_in c.compare.new.self).marks [] marks.world);
         reached = marks.reached;
         completed = λ place seat there.
@@ -172,7 +172,7 @@ returns-clause-settled c scenario host played =
             subst (λ (begun : List BegunChunk). StaysCompleted begun (writer marks.world place).begun) heard.begun_is
             (subst (λ (p : ℕ). StaysCompleted heard.tale.begun (writer marks.world p).begun) heard.place_is (marks.told heard.number heard.tale (subst (λ (told : List Tale). At told heard.number heard.tale) (sym desk_told) heard.told)));
         settles = subst (λ (v : ServiceView). TakesAllOut (setup_in table) (length (setup_in table).ranges) v (serving.view_in last))
-            (c.mark.ensures.view ∙ sym marks.view_is) settles.takes;
+            (c.mark.ensures.same.view ∙ sym marks.view_is) settles.takes;
         pass = c.compare.ensures.pass;
         known = subst IsKnownWhole (sym c.compare.ensures.known) host.known;
         few_buffers = host.few_buffers;
@@ -188,5 +188,5 @@ returns-clause-settled c scenario host played =
         raws = host.raws;
       },
       subst (λ (o : Option Service). IfSome o (λ service. IsHearing writers (serving.view_in service) marks.world.service)) (sym c.in-Some.is)
-          (subst (λ (v : ServiceView). IsHearing writers (serving.view_in first) v) (sym (marks.view_is ∙ c.compare.ensures.view)) hears),
+          (subst (λ (v : ServiceView). IsHearing writers (serving.view_in first) v) (sym (marks.view_is ∙ c.compare.ensures.same.view)) hears),
     )

@@ -43,10 +43,10 @@ invariant_of-self g c =
             subst (λ (s : Setup). Takes s (places_of c.args.producer 0 s.writers) c.collect.result old new) setup_is c.collect.ensures.takes,
           )) c.args.self.now.played;
       started = ap (λ (s : SessionValue). s.state) c.collect.ensures.keeps.fields.session ∙ c.args.self.now.started;
-      few = subst (λ (l : List Letter). asked_in l ≤ requests_in g.N.HostName.lines) (sym c.collect.ensures.letters) c.args.self.now.few;
+      few = subst (λ (l : List Letter). asked_in l ≤ requests_in g.N.HostName.lines) (sym c.collect.ensures.stays.letters) c.args.self.now.few;
       tallied = subst (λ (l : List Letter). IsTally (requests_in g.N.HostName.lines) (length g.N.HostName.setup.writers) l c.args.self.now.tally)
-          (sym c.collect.ensures.letters) c.args.self.now.tallied;
+          (sym c.collect.ensures.stays.letters) c.args.self.now.tallied;
       kept = answers_same (length g.N.HostName.setup.writers) (view_in c.args.self.now.service).letters (view_in c.collect.new.self).letters
-          (core_of c.args.self.now.service).session (core_of c.collect.new.self).session c.collect.ensures.letters c.collect.ensures.keeps.fields.session
+          (core_of c.args.self.now.service).session (core_of c.collect.new.self).session c.collect.ensures.stays.letters c.collect.ensures.keeps.fields.session
           c.args.self.now.kept;
     }

@@ -11,7 +11,7 @@ use Rattle.scenario_text.specs.declared.scenario.LineKind.TheVariants as line
 use Rattle.session_core.specs.Sessions.{SessionValue}
 use Rattle.service_core.specs.declared.service.ServiceCore.{ServiceCore}
 use Rattle.service_core.specs.Agreement.{first_of}
-use Rattle.service_core.specs.Reading.{FailsAmong, noted_read, reads_in}
+use Rattle.service_core.specs.Reading.{FailsAmong, noted_read, reads_in, read_moment}
 use Rattle.service_core.specs.Taking.{noted_more}
 use Rattle.replay_model.specs.Flushes.{requests_in}
 use Rattle.thread_service.specs.Serving.{core_of, view_in}
@@ -34,7 +34,7 @@ returns-in-Ok-clause-told g c =
     setup_is
     (locked_tells (setup_in c.args.table.now) core c.args.buffer c.args.limit (view_in c.args.self.now.service) (view_in c.read_passing.new.self)
     passed pass before after g.N.HostName.first (ap (λ (setup : Setup). first_of setup core) setup_is ∙ c.args.self.now.began)
-    (Ok c.in-Ok.delivered) c.in-Ok.ensures.reads c.read_passing.ensures.passes c.read_passing.ensures.asked)
+    (Ok c.in-Ok.delivered) c.in-Ok.ensures.reads c.read_passing.ensures.passes c.read_passing.ensures.leaves.asked)
 
 pub returns-in-Err-clause-told : goal.returns-in-Err-clause-told
 returns-in-Err-clause-told g c =
@@ -61,7 +61,7 @@ invariant_of-self g c =
     let core = core_of c.args.self.now.service in
     let old = view_in c.args.self.now.service in let new = view_in c.read_passing.new.self in
     let before = g.O.Sink.taken c.args.out.now in let after = g.O.Sink.taken c.read_passing.new.out in
-    let letters = c.read_passing.ensures.letters in
+    let letters = c.read_passing.ensures.leaves.letters in
     let kind = line.Read c.args.buffer c.args.limit in
     record {
       serves = search rules;
@@ -81,11 +81,11 @@ invariant_of-self g c =
           (held (setup_in c.args.table.now) named core g.N.HostName.first old setup_is
           (c.args.self.now.serves c.args.table.now c.requires.table).agrees.buffers c.args.self.now.began))
           c.args.self.now.played;
-      started = ap (λ (s : SessionValue). s.state) c.read_passing.ensures.keeps.fields.session ∙ c.args.self.now.started;
+      started = ap (λ (s : SessionValue). s.state) c.read_passing.ensures.leaves.keeps.fields.session ∙ c.args.self.now.started;
       few = subst (λ (l : List Letter). asked_in l ≤ requests_in g.N.HostName.lines) (sym letters) c.args.self.now.few;
       tallied = subst (λ (l : List Letter). IsTally (requests_in g.N.HostName.lines) (length named.writers) l c.args.self.now.tally) (sym letters) c.args.self.now.tallied;
       kept = answers_same (length named.writers) old.letters new.letters (core_of c.args.self.now.service).session (core_of c.read_passing.new.self).session letters
-          c.read_passing.ensures.keeps.fields.session c.args.self.now.kept;
+          c.read_passing.ensures.leaves.keeps.fields.session c.args.self.now.kept;
     }
 
 pub invariant_of-self-in-Err-1 : goal.invariant_of-self-in-Err-1
@@ -96,9 +96,9 @@ invariant_of-self-in-Err-1 g c =
     let core = core_of c.args.self.now.service in
     let old = view_in c.args.self.now.service in let new = view_in c.read_passing.new.self in
     let before = g.O.Sink.taken c.args.out.now in let after = g.O.Sink.taken c.read_passing.new.out in
-    let letters = c.read_passing.ensures.letters in
+    let letters = c.read_passing.ensures.leaves.letters in
     let kind = line.Read c.args.buffer c.args.limit in
-    let fails = subst (λ (s : Setup). FailsAmong s core c.args.buffer c.args.limit old new before after) setup_is c.in-Err.ensures.fails in
+    let fails = subst (λ (s : Setup). FailsAmong s core c.args.buffer c.args.limit (read_moment old before) (read_moment new after)) setup_is c.in-Err.ensures.fails in
     record {
       serves = search rules;
       «open» = search rules;
@@ -115,9 +115,9 @@ invariant_of-self-in-Err-1 g c =
           (held (setup_in c.args.table.now) named core g.N.HostName.first old setup_is
           (c.args.self.now.serves c.args.table.now c.requires.table).agrees.buffers c.args.self.now.began) fails.notes.history)
           fails.notes.view c.args.self.now.played;
-      started = ap (λ (s : SessionValue). s.state) c.read_passing.ensures.keeps.fields.session ∙ c.args.self.now.started;
+      started = ap (λ (s : SessionValue). s.state) c.read_passing.ensures.leaves.keeps.fields.session ∙ c.args.self.now.started;
       few = subst (λ (l : List Letter). asked_in l ≤ requests_in g.N.HostName.lines) (sym letters) c.args.self.now.few;
       tallied = subst (λ (l : List Letter). IsTally (requests_in g.N.HostName.lines) (length named.writers) l c.args.self.now.tally) (sym letters) c.args.self.now.tallied;
       kept = answers_same (length named.writers) old.letters new.letters (core_of c.args.self.now.service).session (core_of c.read_passing.new.self).session letters
-          c.read_passing.ensures.keeps.fields.session c.args.self.now.kept;
+          c.read_passing.ensures.leaves.keeps.fields.session c.args.self.now.kept;
     }

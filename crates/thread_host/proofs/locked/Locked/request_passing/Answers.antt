@@ -29,7 +29,7 @@ request_passing-requires-clause-fewer g c = let room = c.requires.room.room in l
 pub unreachable-requires : goal.unreachable-requires
 unreachable-requires g c =
     let made = asked_in (known_by_pass c.args.pass.now).letters + 1 in
-    absurd (let wrong = sym c.in-Err.is ∙ c.request_passing.ensures.answer
+    absurd (let wrong = sym c.in-Err.is ∙ c.request_passing.ensures.request.answer
     ∙ ap (λ (state : SessionState). answered_as (refusal_in Flush state) made) c.args.self.now.started in cc)
 
 pub returns : goal.returns
@@ -38,19 +38,19 @@ returns g c =
     let passed = known_by_pass c.args.pass.now in let pass = known_by_pass c.request_passing.new.pass in
     let calls = c.request_passing.ensures in
     let setup_is = c.requires.table.setup_is in
-    let asks = requested_view (core_of old).session.state (view_in old) (view_in new) c.args.self.now.started calls.view in
+    let asks = requested_view (core_of old).session.state (view_in old) (view_in new) c.args.self.now.started calls.passes.view in
     let knows : pass ≡ view_in new =
-    subst (λ (state : SessionState). PassRequests (refusal_in Flush state) passed pass (view_in new)) c.args.self.now.started calls.knows in
+    subst (λ (state : SessionState). PassRequests (refusal_in Flush state) passed pass (view_in new)) c.args.self.now.started calls.passes.knows in
     let asked : asked_in pass.letters ≡ asked_in passed.letters + 1 =
-    ap (λ (v : ServiceView). asked_in v.letters) (knows ∙ asks) ∙ asked_more (view_in old).letters ∙ ap (λ n. n + 1) calls.goes_on.asked in
+    ap (λ (v : ServiceView). asked_in v.letters) (knows ∙ asks) ∙ asked_more (view_in old).letters ∙ ap (λ n. n + 1) calls.passes.goes_on.asked in
     record {
-      pass = record { passes = calls.pass; known = calls.known };
+      pass = record { passes = calls.serves.passes; known = calls.serves.known };
       requested = record {
         requests = asks;
         knows = knows;
         told = λ taken. subst (λ (setup : Setup). TellsLine setup g.N.HostName.first line.Request passed pass taken taken) setup_is
             (request_tells (setup_in c.args.table.now) (core_of old) g.N.HostName.first passed pass taken
-            (ap (λ (setup : Setup). first_of setup (core_of old)) setup_is ∙ c.args.self.now.began) calls.passes asked);
+            (ap (λ (setup : Setup). first_of setup (core_of old)) setup_is ∙ c.args.self.now.began) calls.passes.passes asked);
         desk = calls.desk;
       };
       turns = let is = c.turns.view_is in let same = c.audit.ensures.amount in let more = c.add.ensures.amount in omega (arith, is, same, more);
@@ -60,9 +60,9 @@ pub invariant_of-self : goal.invariant_of-self
 invariant_of-self g c =
     let old = c.args.self.now.service in let new = c.request_passing.new.self in
     let calls = c.request_passing.ensures in
-    let asks = requested_view (core_of old).session.state (view_in old) (view_in new) c.args.self.now.started calls.view in
+    let asks = requested_view (core_of old).session.state (view_in old) (view_in new) c.args.self.now.started calls.passes.view in
     let session : (core_of new).session ≡ requested (core_of old).session =
-    calls.after ∙ ap (λ (state : SessionState). left_as (refusal_in Flush state) (core_of old).session (requested (core_of old).session)) c.args.self.now.started in
+    calls.request.after ∙ ap (λ (state : SessionState). left_as (refusal_in Flush state) (core_of old).session (requested (core_of old).session)) c.args.self.now.started in
     record {
       serves = search rules;
       «open» = search rules;
@@ -79,7 +79,7 @@ invariant_of-self g c =
       started = ap (λ (s : SessionValue). s.state) session ∙ c.args.self.now.started;
       few =
           let more = ap (λ (v : ServiceView). asked_in v.letters) asks ∙ asked_more (view_in old).letters in
-          let went = calls.goes_on.asked in let room = c.requires.room.room in
+          let went = calls.passes.goes_on.asked in let room = c.requires.room.room in
           omega (arith, more, went, room);
       tallied = subst (λ (v : ServiceView). IsTally (requests_in g.N.HostName.lines) (length g.N.HostName.setup.writers) v.letters c.args.self.now.tally) (sym asks)
           (tally_asked (requests_in g.N.HostName.lines) (length g.N.HostName.setup.writers) (view_in old).letters c.args.self.now.tally c.args.self.now.tallied);

@@ -38,10 +38,10 @@ invariant_of-self g c = record {
       (subst (λ (n : ℕ). IsNext g.N.HostName.lines n (line.Scrape c.args.producer)) (sym c.turns.view_is ∙ same) c.requires.turn.next) (omega (arith, total, more))
       (c.scrape.result, subst (λ (s : Setup). TakesAndScrapes s c.args.producer c.scrape.result old new) setup_is c.scrape.ensures.scrapes) c.args.self.now.played;
   started = ap (λ (s : SessionValue). s.state) c.scrape.ensures.keeps.fields.session ∙ c.args.self.now.started;
-  few = subst (λ (l : List Letter). asked_in l ≤ requests_in g.N.HostName.lines) (sym c.scrape.ensures.letters) c.args.self.now.few;
+  few = subst (λ (l : List Letter). asked_in l ≤ requests_in g.N.HostName.lines) (sym c.scrape.ensures.stays.letters) c.args.self.now.few;
   tallied = subst (λ (l : List Letter). IsTally (requests_in g.N.HostName.lines) (length g.N.HostName.setup.writers) l c.args.self.now.tally)
-      (sym c.scrape.ensures.letters) c.args.self.now.tallied;
+      (sym c.scrape.ensures.stays.letters) c.args.self.now.tallied;
   kept = answers_same (length g.N.HostName.setup.writers) (view_in c.args.self.now.service).letters (view_in c.scrape.new.self).letters
-      (core_of c.args.self.now.service).session (core_of c.scrape.new.self).session c.scrape.ensures.letters c.scrape.ensures.keeps.fields.session
+      (core_of c.args.self.now.service).session (core_of c.scrape.new.self).session c.scrape.ensures.stays.letters c.scrape.ensures.keeps.fields.session
       c.args.self.now.kept;
 }

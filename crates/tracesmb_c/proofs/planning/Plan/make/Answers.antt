@@ -79,7 +79,7 @@ returns-clause-session c =
     (setup_of plan.producers.items) c.deref-4.ensures.value) in
     let laid : (setup_in table).writers ≡ plan.writers.items = ap (λ (s : Setup). s.writers) setup_is in
     let seen : serving.view_in service ≡ (first_world (setup_in table)).service =
-    ap known_by_service c.in_ok-service.ensures.seat ∙ c.pass-pass.ensures.view ∙ c.in_ok-table.ensures.service_view in
+    ap known_by_service c.in_ok-service.ensures.made.seat_is ∙ c.pass-pass.ensures.view ∙ c.in_ok-table.ensures.service_view in
     let none : IsUnused (length c.deref-4.result.now) (known_by_service c.pass-pass.new.seat) =
     subst (λ (ws : List WriterSpec). IsUnused (length ws) (known_by_service c.pass-pass.new.seat)) (laid ∙ sym c.deref-4.ensures.value)
     (subst (IsUnused (length (setup_in table).writers)) (sym (c.pass-pass.ensures.view ∙ c.in_ok-table.ensures.service_view))
@@ -118,7 +118,7 @@ returns-clause-session c =
           (serving.core_of service) place ≡ false) c.deref-3.ensures.value
           (subst (λ (ws : List WriterSpec). is_closed (setup_of c.deref-3.result.now ws)
           (serving.core_of service) place ≡ false) c.deref-4.ensures.value
-          (c.in_ok-service.ensures.open place (subst (λ (ws : List WriterSpec). place < length ws) (sym c.deref-4.ensures.value) inside)));
+          (c.in_ok-service.ensures.made.is_open place (subst (λ (ws : List WriterSpec). place < length ws) (sym c.deref-4.ensures.value) inside)));
       many = wide ∙ ap (λ (ws : List WriterSpec). length ws) c.deref-6.ensures.value;
       homes = λ place home there.
           subst (λ (t : HostTable). IsNewHome t plan.writers.items place home) c.deref-5.ensures
@@ -150,7 +150,7 @@ returns-clause-untouched c =
     (setup_of plan.producers.items) c.deref-4.ensures.value) in
     let laid : (setup_in table).writers ≡ plan.writers.items = ap (λ (s : Setup). s.writers) setup_is in
     let seen : serving.view_in service ≡ (first_world (setup_in table)).service =
-    ap known_by_service c.in_ok-service.ensures.seat ∙ c.pass-pass.ensures.view ∙ c.in_ok-table.ensures.service_view in
+    ap known_by_service c.in_ok-service.ensures.made.seat_is ∙ c.pass-pass.ensures.view ∙ c.in_ok-table.ensures.service_view in
     let none : IsUnused (length c.deref-4.result.now) (known_by_service c.pass-pass.new.seat) =
     subst (λ (ws : List WriterSpec). IsUnused (length ws) (known_by_service c.pass-pass.new.seat)) (laid ∙ sym c.deref-4.ensures.value)
     (subst (IsUnused (length (setup_in table).writers)) (sym (c.pass-pass.ensures.view ∙ c.in_ok-table.ensures.service_view))
@@ -189,7 +189,7 @@ returns-clause-untouched c =
           (serving.core_of service) place ≡ false) c.deref-3.ensures.value
           (subst (λ (ws : List WriterSpec). is_closed (setup_of c.deref-3.result.now ws)
           (serving.core_of service) place ≡ false) c.deref-4.ensures.value
-          (c.in_ok-service.ensures.open place (subst (λ (ws : List WriterSpec). place < length ws) (sym c.deref-4.ensures.value) inside)));
+          (c.in_ok-service.ensures.made.is_open place (subst (λ (ws : List WriterSpec). place < length ws) (sym c.deref-4.ensures.value) inside)));
       many = wide ∙ ap (λ (ws : List WriterSpec). length ws) c.deref-6.ensures.value;
       homes = λ place home there.
           subst (λ (t : HostTable). IsNewHome t plan.writers.items place home) c.deref-5.ensures
@@ -221,7 +221,7 @@ returns-clause-given c =
     (setup_of plan.producers.items) c.deref-4.ensures.value) in
     let laid : (setup_in table).writers ≡ plan.writers.items = ap (λ (s : Setup). s.writers) setup_is in
     let seen : serving.view_in service ≡ (first_world (setup_in table)).service =
-    ap known_by_service c.in_ok-service.ensures.seat ∙ c.pass-pass.ensures.view ∙ c.in_ok-table.ensures.service_view in
+    ap known_by_service c.in_ok-service.ensures.made.seat_is ∙ c.pass-pass.ensures.view ∙ c.in_ok-table.ensures.service_view in
     let none : IsUnused (length c.deref-4.result.now) (known_by_service c.pass-pass.new.seat) =
     subst (λ (ws : List WriterSpec). IsUnused (length ws) (known_by_service c.pass-pass.new.seat)) (laid ∙ sym c.deref-4.ensures.value)
     (subst (IsUnused (length (setup_in table).writers)) (sym (c.pass-pass.ensures.view ∙ c.in_ok-table.ensures.service_view))
@@ -260,7 +260,7 @@ returns-clause-given c =
           (serving.core_of service) place ≡ false) c.deref-3.ensures.value
           (subst (λ (ws : List WriterSpec). is_closed (setup_of c.deref-3.result.now ws)
           (serving.core_of service) place ≡ false) c.deref-4.ensures.value
-          (c.in_ok-service.ensures.open place (subst (λ (ws : List WriterSpec). place < length ws) (sym c.deref-4.ensures.value) inside)));
+          (c.in_ok-service.ensures.made.is_open place (subst (λ (ws : List WriterSpec). place < length ws) (sym c.deref-4.ensures.value) inside)));
       many = wide ∙ ap (λ (ws : List WriterSpec). length ws) c.deref-6.ensures.value;
       homes = λ place home there.
           subst (λ (t : HostTable). IsNewHome t plan.writers.items place home) c.deref-5.ensures
@@ -286,5 +286,5 @@ returns-clause-made c setup planned =
       table = ap setup_in c.in_ok-shared.ensures.ok ∙ c.in_ok-table.ensures.setup
           ∙ ap (λ (ps : List ProducerSpec). setup_of ps c.deref-2.result.now) c.deref.ensures.value
           ∙ ap (setup_of plan.producers.items) c.deref-2.ensures.value;
-      buffer = c.in_ok-service.ensures.specs;
+      buffer = c.in_ok-service.ensures.made.specs;
     }

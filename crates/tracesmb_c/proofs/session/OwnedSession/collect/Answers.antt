@@ -33,7 +33,7 @@ pub returns-then-held-clause-session : goal.returns-then-held-clause-session
 returns-then-held-clause-session c =
     let session = c.args.self.now in
     serves_by session c.deref.result.now c.deref.ensures c.scrape.new.self session.pass session.waiting session.torn c.requires.session
-    c.scrape.ensures.serves
+    c.scrape.ensures.stays.serves
     (subst (λ (t : HostTable). Passes t session.pass) (sym c.deref.ensures) c.requires.session.pass) c.requires.session.known
     c.scrape.ensures.keeps
     (scrapes_own (setup_in c.deref.result.now) c.args.producer c.scrape.result (known_in session) _ c.scrape.ensures.scrapes)
@@ -47,7 +47,7 @@ returns-else-held-clause-session c =
     let session = c.args.self.now in
     serves_by session c.deref-else-held.result.now c.deref-else-held.ensures c.collect.new.self session.pass session.waiting session.torn
     c.requires.session
-    c.collect.ensures.serves
+    c.collect.ensures.stays.serves
     (subst (λ (t : HostTable). Passes t session.pass) (sym c.deref-else-held.ensures) c.requires.session.pass) c.requires.session.known
     c.collect.ensures.keeps
     (takes_own (setup_in c.deref-else-held.result.now)

@@ -15,11 +15,13 @@ use Rattle.tracesmb_c.proofs.ReadLemmas.{given_next, reads_own, reads_taken, wai
 use Rattle.tracesmb_c.proofs.session.OwnedSession.fill.Goals as goal
 
 pub read_passing-requires-clause-serves : goal.read_passing-requires-clause-serves
-read_passing-requires-clause-serves c = subst (λ (t : HostTable). Serves t c.args.self.now.service)
-    (sym c.deref.ensures) c.requires.session.serves
-
-pub read_passing-requires-clause-pass : goal.read_passing-requires-clause-pass
-read_passing-requires-clause-pass c = subst (λ (t : HostTable). Passes t c.args.self.now.pass) (sym c.deref.ensures) c.requires.session.pass
+read_passing-requires-clause-serves c =
+    let session = c.requires.session in
+    record {
+      serves = subst (λ (t : HostTable). Serves t c.args.self.now.service) (sym c.deref.ensures) session.serves;
+      passes = subst (λ (t : HostTable). Passes t c.args.self.now.pass) (sym c.deref.ensures) session.pass;
+      known = session.known;
+    }
 
 pub returns-in-Ok-clause-session : goal.returns-in-Ok-clause-session
 returns-in-Ok-clause-session c =
@@ -29,7 +31,7 @@ returns-in-Ok-clause-session c =
     let events = reads_in (setup_in c.deref.result.now) core.buffers.items BUFFER AT_ONCE in
     let new = c.read_passing.new.self in
     serves_by session c.deref.result.now c.deref.ensures new c.read_passing.new.pass _ session.torn c.requires.session
-    c.in-Ok.ensures.serves c.in-Ok.ensures.pass c.in-Ok.ensures.known c.in-Ok.ensures.keeps
+    c.in-Ok.ensures.leaves.serving.serves c.in-Ok.ensures.leaves.serving.passes c.in-Ok.ensures.leaves.serving.known c.in-Ok.ensures.leaves.keeps
     (reads_own (setup_in c.deref.result.now) core events (known_in session) (view_in new) reads.notes)
     (λ _. same_taken (known_in session) (view_in new)
     (reads_taken (setup_in c.deref.result.now) core events (known_in session) (view_in new) reads.notes))
@@ -42,7 +44,7 @@ returns-in-Err-clause-session c =
     let events : List model.Event = fails.firsts ++ model.Read fails.sequence fails.count ∷ [] in
     let new = c.read_passing.new.self in
     serves_by session c.deref.result.now c.deref.ensures new c.read_passing.new.pass _ true c.requires.session
-    c.in-Err.ensures.serves c.in-Err.ensures.pass c.in-Err.ensures.known c.in-Err.ensures.keeps
+    c.in-Err.ensures.leaves.serving.serves c.in-Err.ensures.leaves.serving.passes c.in-Err.ensures.leaves.serving.known c.in-Err.ensures.leaves.keeps
     (reads_own (setup_in c.deref.result.now) core events (known_in session) (view_in new) fails.notes)
     (λ _. same_taken (known_in session) (view_in new)
     (reads_taken (setup_in c.deref.result.now) core events (known_in session) (view_in new) fails.notes))
@@ -57,7 +59,7 @@ returns-in-Ok-clause-given c =
     (subst (λ (t : HostTable). PassReads (setup_in t) core events (known_by_pass session.pass)
     (known_by_pass c.read_passing.new.pass)) c.deref.ensures
     (c.in-Ok.ensures.passes events reads.notes))
-    c.in-Ok.ensures.keeps.fields.specs c.requires.whole c.requires.none_waits
+    c.in-Ok.ensures.leaves.keeps.fields.specs c.requires.whole c.requires.none_waits
     (λ _. waits_whole c.clear.new.self c.read_passing.new.out
     (trace_of (records_after core.buffers.items events)) c.clear.ensures.bytes c.clear.ensures.handed reads.taken)
 
@@ -71,7 +73,7 @@ returns-in-Err-clause-given c =
     (subst (λ (t : HostTable). PassReads (setup_in t) core events (known_by_pass session.pass)
     (known_by_pass c.read_passing.new.pass)) c.deref.ensures
     (c.in-Err.ensures.passes events fails.notes))
-    c.in-Err.ensures.keeps.fields.specs c.requires.whole c.requires.none_waits
+    c.in-Err.ensures.leaves.keeps.fields.specs c.requires.whole c.requires.none_waits
     (λ whole. let wrong : true ≡ false = whole in absurd (cc))
 
 pub returns-in-Ok-clause-due : goal.returns-in-Ok-clause-due
