@@ -28,7 +28,8 @@ pub record ServesWriter {T W S : Type 0} (means : Meaning T W S) (table : T) (co
   pub inside : place < length (means.setup table).writers
   pub is_open : is_closed (means.setup table) core place ≡ false
 
--- An image can come by a commit: its sequence isn't closed, it is as long as the chunks of its producer, and its numbers have their widths.
+-- An image can come by a commit: its sequence is that of a writer and isn't closed, it is as long as the chunks of the writer's producer, and its
+-- numbers have their widths.
 pub record CanCome {S : Type 0} (setup : Setup) (core : ServiceCore S) (image : Image) : Type 0 where
   pub least : FIRST_SEQUENCE ≤ image.sequence
   pub most : image.sequence < FIRST_SEQUENCE + length setup.writers
@@ -37,9 +38,10 @@ pub record CanCome {S : Type 0} (setup : Setup) (core : ServiceCore S) (image : 
   pub count : image.count ≤ MAX_FRAGMENTS
   pub flags : image.flags ≤ MAX_FLAGS
 
--- The service serves on: it agrees with what its seat knows then, it keeps the session and which sequences are closed, and all else of the
--- table is as it was.
-pub record ServesOn {T W S : Type 0} (means : Meaning T W S) (table : T) (core : ServiceCore S) (left : T) (done : ServiceCore S) : Type 0 where
+-- The service serves on: it agrees with what its seat knows then, it keeps the session and which sequences are closed, and the table's set-up and
+-- the other seats, with what they know, are as they were. Chunks may have been taken.
+pub record ServesOn {T W S : Type 0} (means : Meaning T W S) (table : T) (core : ServiceCore S) (left : T)
+    (done : ServiceCore S) : Type 0 where
   pub agrees : ServiceAgrees (means.setup table) (means.service_view left done.seat) done
   pub keeps : KeepsRest (means.setup table) core done
   pub step : IsServiceStep means table core.seat left done.seat
@@ -48,13 +50,15 @@ pub record ServesOn {T W S : Type 0} (means : Meaning T W S) (table : T) (core :
 abbrev pub TellsView : {T W S : Type 0} → Meaning T W S → (old new : T) → ServiceView → Type 0
 TellsView means old new view = (world : World) → means.told old ≡ Some world → means.told new ≡ Some (serviced world view)
 
--- The service serves on, and took nothing from the table.
-pub record NotesOn {T W S : Type 0} (means : Meaning T W S) (table : T) (core : ServiceCore S) (left : T) (done : ServiceCore S) : Type 0 where
+-- The service serves on, and nothing has changed in a told world but what it knows: it took no chunk.
+pub record NotesOn {T W S : Type 0} (means : Meaning T W S) (table : T) (core : ServiceCore S) (left : T)
+    (done : ServiceCore S) : Type 0 where
   pub service : ServesOn means table core left done
   pub told : TellsView means table left (means.service_view left done.seat)
 
--- its seat noted these, and nothing else happened on the table
-pub record NotesAlone {T W S : Type 0} (means : Meaning T W S) (notes : List Noted) (table : T) (seat : S) (left : T) (after : S) : Type 0 where
+-- the service's seat noted these and learnt nothing else, and nothing else has changed in a told world
+pub record NotesAlone {T W S : Type 0} (means : Meaning T W S) (notes : List Noted) (table : T) (seat : S) (left : T)
+    (after : S) : Type 0 where
   pub view : means.service_view left after ≡ noted_more (means.service_view table seat) notes
   pub step : IsServiceStep means table seat left after
   pub told : TellsView means table left (means.service_view left after)

@@ -1,4 +1,4 @@
--- What looks at chunks show, and loads.
+-- What looks at chunks show, and what is loaded of them.
 use Rattle.std.specs.Prelude.{◌≡◌, ℕ, ◌<◌, ◌≤◌, List, [], ◌∷◌, ◌++◌, Some, slice_get, slice_index_or}
 use Rattle.chunk_plain.specs.Setup.{Setup, id_at}
 use Rattle.chunk_plain.specs.Views.{Look, ServiceView, taken_of}
@@ -42,8 +42,9 @@ pub record SeesEach (Fact : LookFact) (setup : Setup) (place : ℕ) (IsOne : ℕ
   pub view : new ≡ looked old looks
   pub each : (chunk : ℕ) → IsOne chunk → ShowsFact Fact setup place (taken_of old place).count chunk looks
 
--- The chunk's payload was loaded, and begins with what was found of it. The seat knows what it knew, and the table is as it was.
-pub record LoadsFound {T W S : Type 0} (means : Meaning T W S) (chunk : ℕ) (bytes : List ℕ) (table : T) (seat : S) (left : T) (after : S) : Type 0 where
+-- The chunk's payload was loaded, and begins with what was found of it. The seat knows what it knew, and a told world is as it was.
+pub record LoadsFound {T W S : Type 0} (means : Meaning T W S) (chunk : ℕ) (bytes : List ℕ) (table : T) (seat : S) (left : T)
+    (after : S) : Type 0 where
   pub view : means.service_view left after ≡ means.service_view table seat
   pub found : ShowsFound (means.service_view table seat) chunk bytes
   pub step : IsServiceStep means table seat left after

@@ -39,8 +39,8 @@ pub record IsUnused (writers : ℕ) (view : ServiceView) : Type 0 where
   pub none_read : view.reading ≡ []
   pub none_noted : view.events ≡ []
 
--- A new service: it has this seat and was made from these buffers, it agrees with each view in which nothing was taken or noted, no sequence
--- is closed, and its session is started.
+-- A new service: it has this seat and was made from these buffers, it agrees with each view in which nothing was taken or noted, no
+-- sequence is closed, and its session is started.
 pub record IsNewService {S : Type 0} (setup : Setup) (buffers : List BufferSpec) (seat : S) (core : ServiceCore S) : Type 0 where
   pub seat_is : core.seat ≡ seat
   pub specs : core.specs.items ≡ buffers

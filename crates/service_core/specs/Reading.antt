@@ -42,14 +42,16 @@ pub record ReadMoment : Type 0 where
   pub view : ServiceView
   pub taken : Intake
 
--- the moment at which these stand so
+-- the moment at which the seat knows this and the sink has taken so much
 abbrev pub read_moment : ServiceView → Intake → ReadMoment
 read_moment view taken = record { view = view; taken = taken }
 
 -- A buffer was read: its reads were noted, the sink took their records, and so many packets were delivered.
-pub record ReadsAll {S : Type 0} (setup : Setup) (core : ServiceCore S) (number limit delivered : ℕ) (before after : ReadMoment) : Type 0 where
+pub record ReadsAll {S : Type 0} (setup : Setup) (core : ServiceCore S) (number limit delivered : ℕ)
+    (before after : ReadMoment) : Type 0 where
   pub notes : NotesReads setup core (reads_in setup core.buffers.items number limit) before.view after.view
-  pub taken : after.taken ≡ after_told before.taken (trace_of (records_after core.buffers.items (reads_in setup core.buffers.items number limit)))
+  pub taken : after.taken
+      ≡ after_told before.taken (trace_of (records_after core.buffers.items (reads_in setup core.buffers.items number limit)))
   pub many : delivered ≡ length (records_after core.buffers.items (reads_in setup core.buffers.items number limit))
 
 -- A write failed in a read of one sequence: the sink had taken the records before whole, so many, and took a front part of the next one.
@@ -92,15 +94,17 @@ pub record ReadYet (S : Type 0) : Type 0 where
   pub place : ℕ
   pub left : ℕ
 
--- as these say
+-- the reading has come so far
 abbrev pub read_yet : {S : Type 0} → ServiceCore S → (place left : ℕ) → ReadYet S
 read_yet core place left = record { core = core; place = place; left = left }
 
 -- These reads of a buffer are done, and those of the writers from this place on are still to come, with so much left of the limit.
-pub record ReadsSome {S : Type 0} (setup : Setup) (core : ServiceCore S) (number limit : ℕ) (yet : ReadYet S) (before now : ReadMoment) : Type 0 where
+pub record ReadsSome {S : Type 0} (setup : Setup) (core : ServiceCore S) (number limit : ℕ) (yet : ReadYet S)
+    (before now : ReadMoment) : Type 0 where
   pub events : List model.Event
   pub rest : reads_in setup core.buffers.items number limit
-      ≡ events ++ reads_of yet.left (buffer_at yet.core.buffers.items (number - 1)) (sequences_to number yet.place (drop yet.place setup.writers))
+      ≡ events ++ reads_of yet.left (buffer_at yet.core.buffers.items (number - 1))
+      (sequences_to number yet.place (drop yet.place setup.writers))
   pub view : now.view ≡ noted_more before.view (flat_map noted_read events)
   pub history : history_of now.view ≡ history_of before.view ++ events
   pub buffers : yet.core.buffers.items ≡ buffers_after core.buffers.items events

@@ -169,13 +169,15 @@ pub record NotesPart (place : ℕ) (old : World) (told : Option World) (before v
   pub events : view.events ≡ before.events ++ part_held old place
 
 -- finished fragments came of the chunk that the writer at this place holds as its next one
-pub record PartTaken {T W S : Type 0} (means : Meaning T W S) (place : ℕ) (table : T) (seat : S) (left : T) (after : S) : Type 0 where
+pub record PartTaken {T W S : Type 0} (means : Meaning T W S) (place : ℕ) (table : T) (seat : S) (left : T)
+    (after : S) : Type 0 where
   pub takes : TakesPart (means.setup table) place (means.service_view table seat) (means.service_view left after)
   pub told : (world : World) → means.told table ≡ Some world
       → NotesPart place world (means.told left) (means.service_view table seat) (means.service_view left after)
 
 -- or this chunk was looked at, and nothing of it comes so
-pub record NoPartTaken {T W S : Type 0} (means : Meaning T W S) (place chunk : ℕ) (table : T) (seat : S) (left : T) (after : S) : Type 0 where
+pub record NoPartTaken {T W S : Type 0} (means : Meaning T W S) (place chunk : ℕ) (table : T) (seat : S) (left : T)
+    (after : S) : Type 0 where
   pub sees : SeesNoPart (means.setup table) place chunk (means.service_view table seat) (means.service_view left after)
   pub told : (world : World) → means.told table ≡ Some world
       → FindsNoPart place (taken_of (means.service_view table seat) place).count chunk world (means.told left) (means.service_view left after)

@@ -132,7 +132,7 @@ pub record TakesSome (place taken : ℕ) (old new : ServiceView) : Type 0 where
 -- One chunk that was taken
 
 -- The seat took the chunk out of the table, as the one at this position of the writer at this place: it has its spot's size and the
--- position's id, and its numbers have their widths.
+-- position's id, its numbers have their widths, and the position is one that there is.
 pub record TakenFor {T W S : Type 0} (means : Meaning T W S) (table : T) (seat : S) (place position : ℕ) (taken : Token) : Type 0 where
   pub serves : means.serves table seat
   pub reading : 0 < times taken.chunk (means.service_view table seat).reading

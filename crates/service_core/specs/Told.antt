@@ -101,28 +101,36 @@ pub record FreesSome (setup : Setup) (place taken : ℕ) (old : World) (told : O
 -- What a taking leaves, in the view and in a told world
 
 -- this chunk was taken as the next one of the writer at this place, and is free
-pub record ChunkTaken {T W S : Type 0} (means : Meaning T W S) (place chunk : ℕ) (table : T) (seat : S) (left : T) (after : S) : Type 0 where
+pub record ChunkTaken {T W S : Type 0} (means : Meaning T W S) (place chunk : ℕ) (table : T) (seat : S) (left : T)
+    (after : S) : Type 0 where
   pub takes : TakesOne place (means.service_view table seat) (means.service_view left after)
   pub told : (world : World) → means.told table ≡ Some world
-      → FreesOne place (taken_of (means.service_view table seat) place).count chunk world (means.told left) (means.service_view left after)
+      → FreesOne place (taken_of (means.service_view table seat) place).count chunk world
+      (means.told left) (means.service_view left after)
 
 -- or it was looked at, and isn't the next one
-pub record ChunkPassed {T W S : Type 0} (means : Meaning T W S) (place chunk : ℕ) (table : T) (seat : S) (left : T) (after : S) : Type 0 where
+pub record ChunkPassed {T W S : Type 0} (means : Meaning T W S) (place chunk : ℕ) (table : T) (seat : S) (left : T)
+    (after : S) : Type 0 where
   pub sees : SeesOther (means.setup table) place chunk (means.service_view table seat) (means.service_view left after)
   pub told : (world : World) → means.told table ≡ Some world
-      → FreesNone place (taken_of (means.service_view table seat) place).count chunk world (means.told left) (means.service_view left after)
+      → FreesNone place (taken_of (means.service_view table seat) place).count chunk world
+      (means.told left) (means.service_view left after)
 
 -- a chunk of the producer was taken as the next one of the writer at this place, and is free
-pub record NextTaken {T W S : Type 0} (means : Meaning T W S) (place : ℕ) (table : T) (seat : S) (left : T) (after : S) : Type 0 where
+pub record NextTaken {T W S : Type 0} (means : Meaning T W S) (place : ℕ) (table : T) (seat : S) (left : T)
+    (after : S) : Type 0 where
   pub takes : TakesNext place (means.service_view table seat) (means.service_view left after)
   pub told : (world : World) → means.told table ≡ Some world
-      → FreesNext (means.setup table) place (taken_of (means.service_view table seat) place).count world (means.told left) (means.service_view left after)
+      → FreesNext (means.setup table) place (taken_of (means.service_view table seat) place).count world
+      (means.told left) (means.service_view left after)
 
 -- or those from one up to another were looked at, and none is the next one
-pub record AllPassed {T W S : Type 0} (means : Meaning T W S) (place first last : ℕ) (table : T) (seat : S) (left : T) (after : S) : Type 0 where
+pub record AllPassed {T W S : Type 0} (means : Meaning T W S) (place first last : ℕ) (table : T) (seat : S) (left : T)
+    (after : S) : Type 0 where
   pub sees : SeesNoneOf (means.setup table) place first last (means.service_view table seat) (means.service_view left after)
   pub told : (world : World) → means.told table ≡ Some world
-      → FreesNoneOf place (taken_of (means.service_view table seat) place).count first last world (means.told left) (means.service_view left after)
+      → FreesNoneOf place (taken_of (means.service_view table seat) place).count first last world
+      (means.told left) (means.service_view left after)
 
 -- From what is left to what is ready
 

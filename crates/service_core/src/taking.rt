@@ -2,7 +2,6 @@
 ghost use Rattle.std.specs.Prelude.{◌≡◌, ℕ, ◌+◌, ◌^◌, ◌<◌, ◌≤◌, true, false, Some, None, IfSome, IsSome, [], ◌∷◌, vec_len, map};
 ghost use Rattle.chunk_plain.specs.declared.tokens.TheConstants.{POSITION_LIMIT};
 ghost use Rattle.commit_body.specs.Patches.{patch_value};
-ghost use Rattle.trace_model.specs.History as model;
 ghost use Rattle.chunk_plain.specs.Setup.{range_of, producer_of, IsChunkOf, sequence_of};
 ghost use Rattle.chunk_plain.specs.Views.{taken_of};
 ghost use Rattle.chunk_plain.specs.World.{World, Unclaimed};

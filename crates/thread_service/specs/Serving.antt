@@ -57,7 +57,8 @@ pub record HasMemory (id : TableId) (desk : Desk) (table : HostTable) (service :
   pub table_is : identity_of table ≡ id
   pub desk_is : desk_in service ≡ desk
 
--- A new service is one of each table with this set-up at which its seat attends, where the seat took, noted and asked for nothing.
+-- A new service: made so (`IsNewService`), and one of each table with this set-up at which its seat attends, where the seat took, noted and asked
+-- for nothing.
 pub record IsNewFor (setup : Setup) (buffers : List BufferSpec) (seat : ServiceSeat) (service : Service) : Type 0 where
   pub made : IsNewService setup buffers seat (core_of service)
   pub serves : (table : HostTable) → Attends table seat → setup_in table ≡ setup

@@ -61,9 +61,8 @@ impl Service {
         Ok(flush)
     }
 
-    /// The last answer of a writer: the number of its request and how many chunks, both 0 without one. It
-    /// is to no older request than the writer told of or than was read of it before; what was read to the
-    /// same request is the same. Writers count from 1.
+    /// The last answer of a writer: the number of its request and how many chunks, both 0 without one.
+    /// Writers count from 1.
     pub fn answer_of(&mut self, table: &HostTable, writer: u16) -> (u32, u32)
         requires serves { Serves table.now self.old }
         requires least { 1 ≤ writer }

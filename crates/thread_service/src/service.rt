@@ -2,7 +2,6 @@
 ghost use Rattle.std.specs.Prelude.{◌≡◌, ◌≤◌, All, length, IfOk};
 ghost use Rattle.trace_base.specs.declared.limits.TheConstants.{MAX_BUFFERS, MAX_PRODUCERS, MAX_PAGES};
 ghost use Rattle.chunk_plain.specs.Laying.{setup_of};
-ghost use Rattle.chunk_words.specs.declared.host.HostTable.{HostTable};
 ghost use Rattle.chunk_words.specs.Sits.{setup_in};
 ghost use Rattle.service_core.specs.Agreement.{IsRouted, IsOpen, KeepsRest};
 ghost use Rattle.service_core.specs.Closing.{ClosesAll, TakesAndCloses};

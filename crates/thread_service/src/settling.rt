@@ -4,7 +4,6 @@ ghost use Rattle.chunk_plain.specs.Setup.{producer_of};
 ghost use Rattle.chunk_plain.specs.Views.{At, taken_of};
 ghost use Rattle.chunk_words.specs.Knows.{Tale};
 ghost use Rattle.chunk_words.specs.Sits.{setup_in};
-ghost use Rattle.chunk_words.specs.declared.host.HostTable.{HostTable};
 ghost use Rattle.service_core.specs.Agreement.{KeepsRest, IsOpen, is_closed};
 ghost use Rattle.thread_service.specs.Serving.{core_of, view_in, desk_in, Serves, ServesStill};
 ghost use Rattle.thread_service.specs.Settling.{AreSeenOut, IsSeenOut, IsWholeTale, TakesOut, TakesAllOut};
