@@ -8,10 +8,11 @@ use Rattle.claim_arbiter.specs.Claiming.{range_in}
 use Rattle.trace_writer.specs.declared.fault.Begun.{Begun as BegunPacket}
 use Rattle.trace_writer.specs.declared.fault.Begun.TheVariants.{Kept, Dropping}
 use Rattle.trace_writer.specs.declared.fault.CallFault.{CallFault}
-use Rattle.trace_writer.specs.declared.route.Route.{Route}
-use Rattle.trace_writer.specs.Helping.{LeavesWriters, LeavesOthers, Works, loses, rounds_for, refuses}
+use Rattle.trace_writer.specs.Empty.{is_stalled}
+use Rattle.trace_writer.specs.Helping.{LeavesOthers, WorksOn, loses, rounds_for, refuses}
 use Rattle.trace_writer.specs.Losing.{LosesBehind}
-use Rattle.trace_writer.specs.OwnSteps.{IsQuiet, IsSilent, GetsChunk, IsVainTry, IsOutNow}
+use Rattle.trace_writer.specs.Moments.{CallMoment, view_at}
+use Rattle.trace_writer.specs.OwnSteps.{IsQuiet}
 
 -- What is noted of a field call. Where it stops since no chunk is to be had, a writer that loses packets gives its own up.
 abbrev pub written_as : Bool → WriterPolicy → Call → List Call
@@ -33,30 +34,41 @@ stops_with (Ok Kept) = false
 stops_with (Ok Dropping) = true
 stops_with (Err fault) = true
 
+-- whether a call begins a packet
+abbrev pub begins_one : Call → Bool
+begins_one (Begun kept) = true
+begins_one call = false
+
+-- what is noted of any call that may need a chunk
+abbrev pub noted_as : Bool → WriterPolicy → Call → List Call
+noted_as stopped policy (Begun kept) = begun_as stopped policy
+noted_as stopped policy call = written_as stopped policy call
+
 -- A call of a writer that isn't stalled, which may be a packet's begin: what it did, whether it stopped since no chunk was to be had, which calls it noted behind
 -- its claims, whether its writer is stalled now, and its steps. A writer that loses its packet does so behind its rounds of claims in
 -- vain, and makes at most so many for each chunk that it begins, and for the chunk that isn't there.
 pub record IsAsked {H T W S : Type 0} (means : Meaning T W S) (needs : H → T → Type 0) (helps : H → T → ℕ → Bool → H → T → Type 0)
-    (begins : Bool) (route : Route) (helper : H) (old : T) (seat : W) (steps : ℕ) (stopped : Bool) (noted : List Call) (stalled : Bool) (left : H) (new : T) (after : W) (later : ℕ) : Type 0 where
-  pub others : LeavesOthers means old seat new after
-  pub works : Works route.spec.policy (IsSilent means) (IsQuiet means)
-      (GetsChunk means route) (IsVainTry means route begins) (IsOutNow means route)
-      (λ asked table answer behind freed. helps asked table route.spec.producer answer behind freed × LeavesWriters means table freed)
-      helper old seat stopped left new after
-  pub needed : needs left new
-  pub counts : later + (length (means.view old seat).asked + length (means.view old seat).begun) ≡ steps + (length (means.view new after).asked + length (means.view new after).begun)
-  pub notes : (means.view new after).calls ≡ (means.view old seat).calls ++ noted
-  pub stalls : stalled ≡ refuses route.spec.policy stopped
-  pub lost : stopped ≡ true → loses route.spec.policy ≡ true
-      → LosesBehind (means.setup old) (range_in route.arbiter) (rounds_for route.spec.policy) (means.view old seat) (means.view new after)
-  pub few_steps : loses route.spec.policy ≡ true → later ≤ steps
-      + (length (means.view new after).begun - length (means.view old seat).begun) * (rounds_for route.spec.policy * route.arbiter.chunks + 1)
-      + (if stopped then rounds_for route.spec.policy * route.arbiter.chunks else 0)
+    (begins stopped : Bool) (noted : List Call) (before behind : CallMoment H T W) : Type 0 where
+  pub others : LeavesOthers means before.table before.core.seat behind.table behind.core.seat
+  pub works : WorksOn means helps (IsQuiet means) begins before.core.writer.route
+      before.helper before.table before.core.seat stopped behind.helper behind.table behind.core.seat
+  pub needed : needs behind.helper behind.table
+  pub counts : behind.steps + (length (view_at means before).asked + length (view_at means before).begun)
+      ≡ before.steps + (length (view_at means behind).asked + length (view_at means behind).begun)
+  pub notes : (view_at means behind).calls ≡ (view_at means before).calls ++ noted
+  pub stalls : is_stalled behind.core.writer.state ≡ refuses before.core.writer.route.spec.policy stopped
+  pub lost : stopped ≡ true → loses before.core.writer.route.spec.policy ≡ true
+      → LosesBehind (means.setup before.table) (range_in before.core.writer.route.arbiter) (rounds_for before.core.writer.route.spec.policy)
+      (view_at means before) (view_at means behind)
+  pub few_steps : loses before.core.writer.route.spec.policy ≡ true → behind.steps ≤ before.steps
+      + (length (view_at means behind).begun - length (view_at means before).begun)
+      * (rounds_for before.core.writer.route.spec.policy * before.core.writer.route.arbiter.chunks + 1)
+      + (if stopped then rounds_for before.core.writer.route.spec.policy * before.core.writer.route.arbiter.chunks else 0)
 
 -- The call was refused for this fault, and changed nothing.
-pub record LeavesAll {A C T H : Type 0} (fault : CallFault) (answer : Result A CallFault) (old new : C) (table left : T) (helper behind : H) (steps later : ℕ) : Type 0 where
+pub record LeavesAll {A H T W : Type 0} (fault : CallFault) (before : CallMoment H T W) (answer : Result A CallFault) (behind : CallMoment H T W) : Type 0 where
   pub answer_is : answer ≡ Err fault
-  pub writer_stays : new ≡ old
-  pub table_stays : left ≡ table
-  pub helper_stays : behind ≡ helper
-  pub steps_stay : later ≡ steps
+  pub writer_stays : behind.core ≡ before.core
+  pub table_stays : behind.table ≡ before.table
+  pub helper_stays : behind.helper ≡ before.helper
+  pub steps_stay : behind.steps ≡ before.steps

@@ -1,4 +1,4 @@
--- What a call of a writer works with, what it asks of that, and what one leaves that asks for no chunk.
+-- What a call of a writer asks of what it works with, and what one leaves that asks for no chunk.
 use Rattle.std.specs.Prelude.{◌≡◌, ℕ, ◌<◌, true, false, [], ◌∷◌, ◌++◌, length}
 use Rattle.trace_model.specs.Calls.{Call}
 use Rattle.chunk_plain.specs.declared.tokens.TheConstants.{POSITION_LIMIT}
@@ -7,20 +7,9 @@ use Rattle.trace_writer.specs.declared.route.Route.{Route}
 use Rattle.trace_writer.specs.declared.state.Writer.{Writer}
 use Rattle.trace_writer.specs.Agreement.{Agrees}
 use Rattle.trace_writer.specs.Empty.{is_stalled}
+use Rattle.trace_writer.specs.Moments.{CallMoment}
 use Rattle.trace_writer.specs.OwnSteps.{IsQuiet}
 use Rattle.trace_writer.specs.Site.{IsRoute}
-
--- what a call works with, as it stands at a moment
-pub record Moment (H T W : Type 0) : Type 0 where
-  pub writer : Writer
-  pub helper : H
-  pub table : T
-  pub seat : W
-  pub steps : ℕ
-
--- the moment at which these five stand so
-abbrev pub moment : {H T W : Type 0} → Writer → H → T → W → ℕ → Moment H T W
-moment writer helper table seat steps = record { writer = writer; helper = helper; table = table; seat = seat; steps = steps }
 
 -- the writer's seat sits at the table, and the writer is as the calls in its view say
 pub record IsAtWork {T W S : Type 0} (means : Meaning T W S) (table : T) (seat : W) (writer : Writer) : Type 0 where
@@ -28,8 +17,8 @@ pub record IsAtWork {T W S : Type 0} (means : Meaning T W S) (table : T) (seat :
   pub agrees : Agrees (means.setup table) (means.place seat) (means.view table seat) writer
 
 -- and its helper may be asked
-pub record IsReady {H T W S : Type 0} (means : Meaning T W S) (needs : H → T → Type 0) (now : Moment H T W) : Type 0 where
-  pub at_work : IsAtWork means now.table now.seat now.writer
+pub record IsReady {H T W S : Type 0} (means : Meaning T W S) (needs : H → T → Type 0) (now : CallMoment H T W) : Type 0 where
+  pub at_work : IsAtWork means now.table now.core.seat now.core.writer
   pub needed : needs now.helper now.table
 
 -- The call was noted, and no chunk asked for: the writer is as the calls in its view say then, and writes on this route.
@@ -54,7 +43,7 @@ pub record MayAsk {H T W S : Type 0} (means : Meaning T W S) (needs : H → T �
   pub needed : needs helper table
   pub route_is : IsRoute (means.setup table) (means.place seat) route
 
--- and the next chunk gets this position
+-- and the next chunk gets this position, which is one that a chunk may have
 pub record MayClaim {H T W S : Type 0} (means : Meaning T W S) (needs : H → T → Type 0) (route : Route) (helper : H) (table : T) (seat : W) (position : ℕ) : Type 0 where
   pub asks : MayAsk means needs route helper table seat
   pub position_is : position ≡ length (means.view table seat).begun

@@ -18,7 +18,7 @@ pub record IsFilled (payload : List ℕ) (at count : ℕ) (done : List (List ℕ
   pub count_is : count ≡ length done
 
 -- The payload has these fragments, and then four bytes for the size of the one that is written and its bytes so far.
-pub record IsWritten (payload : List ℕ) (start at count : ℕ) (done : List (List ℕ)) (now : List ℕ) : Type 0 where
+pub record HasOpenFragment (payload : List ℕ) (start at count : ℕ) (done : List (List ℕ)) (now : List ℕ) : Type 0 where
   pub four : List ℕ
   pub rest : List ℕ
   pub four_is : length four ≡ 4

@@ -4,6 +4,7 @@ use Rattle.trace_base.specs.declared.policy.WriterPolicy.{WriterPolicy}
 use Rattle.trace_base.specs.declared.policy.WriterPolicy.TheVariants.{Drops, Stalls, StallsThenDrops}
 use Rattle.chunk_plain.specs.Meaning.{Meaning}
 use Rattle.trace_writer.specs.declared.route.Route.{Route}
+use Rattle.trace_writer.specs.Moments.{StepMoment}
 use Rattle.trace_writer.specs.OwnSteps.{IsSilent, GetsChunk, IsVainTry, IsOutNow}
 
 -- a help leaves the view of each writer's seat
@@ -78,17 +79,24 @@ pub data Works {H T W : Type 0} (policy : WriterPolicy) (silent last gets vain o
       → policy ≡ StallsThenDrops tries → Tries gets vain helps tries helper old seat true left mid between → last mid between new after
       → Works policy silent last gets vain out helps helper old seat true left new after
 
+-- The same on a route: with the policy of its writer, the chunks of its producer, and helps that leave the view of each writer's seat;
+-- `last` are the steps that come last.
+abbrev pub WorksOn : {H T W S : Type 0} → Meaning T W S → (H → T → ℕ → Bool → H → T → Type 0) → (last : T → W → T → W → Type 0) → (begins : Bool) → Route
+    → H → T → W → Bool → H → T → W → Type 0
+WorksOn means helps last begins route =
+    Works route.spec.policy (IsSilent means) last (GetsChunk means route) (IsVainTry means route begins) (IsOutNow means route)
+    (λ asked table answer behind freed. helps asked table route.spec.producer answer behind freed × LeavesWriters means table freed)
+
 -- What a writer does to its table, its seat and its helper before it notes its call, which may be a packet's begin, whether it stops since
 -- no chunk is to be had, and its steps: each claim is one, and each begin of a chunk.
 pub record IsWork {H T W S : Type 0} (means : Meaning T W S) (needs : H → T → Type 0) (helps : H → T → ℕ → Bool → H → T → Type 0)
-    (begins : Bool) (route : Route) (helper : H) (old : T) (seat : W) (steps : ℕ) (stopped : Bool) (left : H) (new : T) (after : W) (later : ℕ) : Type 0 where
-  pub others : LeavesOthers means old seat new after
-  pub works : Works route.spec.policy (IsSilent means) (IsSilent means)
-      (GetsChunk means route) (IsVainTry means route begins) (IsOutNow means route)
-      (λ asked table answer behind freed. helps asked table route.spec.producer answer behind freed × LeavesWriters means table freed)
-      helper old seat stopped left new after
-  pub needed : needs left new
-  pub counts : later + (length (means.view old seat).asked + length (means.view old seat).begun) ≡ steps + (length (means.view new after).asked + length (means.view new after).begun)
+    (begins : Bool) (route : Route) (before : StepMoment H T W) (stopped : Bool) (behind : StepMoment H T W) : Type 0 where
+  pub others : LeavesOthers means before.table before.seat behind.table behind.seat
+  pub works : WorksOn means helps (IsSilent means) begins route
+      before.helper before.table before.seat stopped behind.helper behind.table behind.seat
+  pub needed : needs behind.helper behind.table
+  pub counts : behind.steps + (length (means.view before.table before.seat).asked + length (means.view before.table before.seat).begun)
+      ≡ before.steps + (length (means.view behind.table behind.seat).asked + length (means.view behind.table behind.seat).begun)
 
 -- whether a call that finds no chunk ends with a help that freed none, so that its writer stalls: one that loses its packet never does
 abbrev pub refuses : WriterPolicy → Bool → Bool

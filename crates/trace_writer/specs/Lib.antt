@@ -2,6 +2,7 @@ pub mod Agreement
 pub mod Answered
 pub mod Asked
 pub mod AtWork
+pub mod Calling
 pub mod Claims
 pub mod Core
 pub mod Drafted
@@ -15,6 +16,7 @@ pub mod Ids
 pub mod InPlace
 pub mod Laws
 pub mod Losing
+pub mod Moments
 pub mod Outcomes
 pub mod OwnSteps
 pub mod Placing

@@ -15,7 +15,7 @@ use Rattle.cut_steps.specs.Between.{IsBetween}
 use Rattle.trace_writer.specs.declared.chunk.HeldChunk.{HeldChunk}
 use Rattle.trace_writer.specs.declared.fragment.OpenFragment.{OpenFragment}
 use Rattle.trace_writer.specs.Site.{Site}
-use Rattle.trace_writer.specs.Filled.{frames, IsFilled, IsWritten, ShowsPages}
+use Rattle.trace_writer.specs.Filled.{frames, IsFilled, HasOpenFragment, ShowsPages}
 use Rattle.trace_writer.specs.Drafted.{IsDrafted}
 
 -- The packet is written into the fragment, behind these; further lengths may come at the places in `coming`.
@@ -31,7 +31,7 @@ pub record InFragment (site : Site) (packet : Packet) (older : List Packet) (vie
   pub position : fragment.held.position ≡ length pages
   pub sized : (spot site.setup fragment.held.chunk).payload_size ≡ site.size
   pub whole : vec_len fragment.held.body.payload ≡ site.size
-  pub written : IsWritten fragment.held.body.payload.items fragment.start fragment.at fragment.count done now
+  pub written : HasOpenFragment fragment.held.body.payload.items fragment.start fragment.at fragment.count done now
   pub few : length pending.holes ≤ MAX_OPEN_HOLES
   pub room : length pending.unsent + holes_outside fragment.held.position pending.holes ≤ MAX_OPEN_HOLES
   pub writing : IsWriting site.size packet older pages fragment.continues done now pending.unsent (reverse pending.holes) coming

@@ -6,8 +6,9 @@ ghost use Rattle.trace_model.specs.Packets.{Account, account_of};
 ghost use Rattle.commit_body.specs.Pending.{Pending};
 ghost use Rattle.trace_base.specs.declared.policy.WriterPolicy.TheVariants.{Drops};
 ghost use Rattle.trace_writer.specs.Empty.{is_empty, is_stalled as is_stalled_state};
-ghost use Rattle.trace_writer.specs.AtWork.{IsAtWork, IsReady, MayAsk, MayClaim, Notes, moment};
+ghost use Rattle.trace_writer.specs.AtWork.{IsAtWork, IsReady, MayAsk, MayClaim, Notes};
 ghost use Rattle.trace_writer.specs.Helping.{IsWork};
+ghost use Rattle.trace_writer.specs.Moments.{at_step, moment};
 ghost use Rattle.trace_writer.specs.OwnSteps.{IsQuiet, NoneHeld};
 ghost use Rattle.trace_model.specs.Calls as call;
 ghost use Rattle.trace_writer.specs.Site.{site_of};
@@ -58,7 +59,7 @@ fn new_place<W: Words, L: Ledger, H: HelperOn<W>>(
         → IsPlace (site_of (W.means.setup table.old) (W.means.place seat.old) route.now) account (W.means.view table.new seat.new) pending
         result }
     ensures work { IsWork W.means H.needs H.helps true
-        route.now help.old table.old seat.old steps.old (not (is_behind result)) help.new table.new seat.new steps.new }
+        route.now (at_step help.old table.old seat.old steps.old) (not (is_behind result)) (at_step help.new table.new seat.new steps.new) }
     ensures few_steps { route.now.spec.policy ≡ Drops → steps.new ≤ steps.old + route.now.arbiter.chunks + 1 }
 {
     match claim_next(route, table, seat, help, next_position, steps) {
@@ -91,7 +92,7 @@ fn held_or_new_place<W: Words, L: Ledger, H: HelperOn<W>>(
     ensures asked { has_room (vec_len chunk.held.body.payload) chunk ≡ true
         → (W.means.view table.new seat.new).asked ≡ (W.means.view table.old seat.old).asked }
     ensures work { IsWork W.means H.needs H.helps true
-        route.now help.old table.old seat.old steps.old (not (is_behind result)) help.new table.new seat.new steps.new }
+        route.now (at_step help.old table.old seat.old steps.old) (not (is_behind result)) (at_step help.new table.new seat.new steps.new) }
     ensures few_steps { route.now.spec.policy ≡ Drops → steps.new ≤ steps.old + route.now.arbiter.chunks + 1 }
 {
     if chunk.has_room() {

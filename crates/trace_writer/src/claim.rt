@@ -7,6 +7,7 @@ ghost use Rattle.chunk_plain.specs.Words.{IsBegun};
 ghost use Rattle.trace_writer.specs.AtWork.{MayClaim};
 ghost use Rattle.trace_writer.specs.Claims.{Wins, FindsNone};
 ghost use Rattle.trace_writer.specs.Helping.{IsWork};
+ghost use Rattle.trace_writer.specs.Moments.{at_step};
 ghost use Rattle.trace_writer.specs.OwnSteps.{NoneHeld};
 
 use crate::helper::HelperOn;
@@ -35,9 +36,9 @@ pub(crate) fn claim_asking<W: Words, L: Ledger, H: HelperOn<W>>(
     ensures begun { IfSome result (λ held. IsBegun (W.means.setup table.old) held.chunk next_position held) }
     ensures none { IfNone result (FindsNone (W.means.view table.old seat.old) (W.means.view table.new seat.new)) }
     ensures work { IsWork W.means H.needs H.helps false
-        route.now help.old table.old seat.old steps.old (not (is_some result)) help.new table.new seat.new steps.new }
+        route.now (at_step help.old table.old seat.old steps.old) (not (is_some result)) (at_step help.new table.new seat.new steps.new) }
     ensures begins { IsWork W.means H.needs H.helps true
-        route.now help.old table.old seat.old steps.old (not (is_some result)) help.new table.new seat.new steps.new }
+        route.now (at_step help.old table.old seat.old steps.old) (not (is_some result)) (at_step help.new table.new seat.new steps.new) }
 {
     let id = id_of(route.spec.from, next_position);
     'claims: loop {
@@ -68,9 +69,9 @@ pub(crate) fn claim_trying<W: Words, L: Ledger, H: HelperOn<W>>(
     ensures begun { IfSome result (λ held. IsBegun (W.means.setup table.old) held.chunk next_position held) }
     ensures none { IfNone result (FindsNone (W.means.view table.old seat.old) (W.means.view table.new seat.new)) }
     ensures work { IsWork W.means H.needs H.helps false
-        route.now help.old table.old seat.old steps.old (not (is_some result)) help.new table.new seat.new steps.new }
+        route.now (at_step help.old table.old seat.old steps.old) (not (is_some result)) (at_step help.new table.new seat.new steps.new) }
     ensures begins { NoneHeld (W.means.view table.old seat.old).begun → IsWork W.means H.needs H.helps true
-        route.now help.old table.old seat.old steps.old (not (is_some result)) help.new table.new seat.new steps.new }
+        route.now (at_step help.old table.old seat.old steps.old) (not (is_some result)) (at_step help.new table.new seat.new steps.new) }
 {
     let id = id_of(route.spec.from, next_position);
     let mut left = tries;
@@ -99,7 +100,7 @@ pub(crate) fn claim_next<W: Words, L: Ledger, H: HelperOn<W>>(
     ensures begun { IfSome result (λ held. IsBegun (W.means.setup table.old) held.chunk next_position held) }
     ensures none { IfNone result (FindsNone (W.means.view table.old seat.old) (W.means.view table.new seat.new)) }
     ensures work { IsWork W.means H.needs H.helps true
-        route.now help.old table.old seat.old steps.old (not (is_some result)) help.new table.new seat.new steps.new }
+        route.now (at_step help.old table.old seat.old steps.old) (not (is_some result)) (at_step help.new table.new seat.new steps.new) }
     ensures few_steps { route.now.spec.policy ≡ Drops → steps.new ≤ steps.old + route.now.arbiter.chunks + 1 }
 {
     match route.spec.policy {

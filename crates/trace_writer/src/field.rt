@@ -7,9 +7,10 @@ ghost use Rattle.trace_model.specs.Encoding.{bytes_head, nested_tag, number_fiel
 ghost use Rattle.trace_model.specs.Packets.{Account, noted, on_newest, with_more};
 ghost use Rattle.chunk_plain.specs.Words.{call_of};
 ghost use Rattle.trace_writer.specs.Agreement.{NeedsNoChunk, is_begun, len_of, open_message_count};
-ghost use Rattle.trace_writer.specs.AtWork.{IsAtWork, IsReady, NotesUnlessStalled, moment};
+ghost use Rattle.trace_writer.specs.AtWork.{IsAtWork, IsReady, NotesUnlessStalled};
 ghost use Rattle.trace_writer.specs.declared.fault.CallFault.TheVariants as call_fault;
 ghost use Rattle.trace_writer.specs.Empty.{is_empty, is_stalled as is_stalled_state};
+ghost use Rattle.trace_writer.specs.Moments.{moment};
 ghost use Rattle.trace_writer.specs.Outcomes.{GoesBehind};
 ghost use Rattle.trace_writer.specs.OwnSteps.{IsQuiet};
 ghost use Rattle.trace_writer.specs.Written.{IsWritten};

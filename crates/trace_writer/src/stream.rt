@@ -10,6 +10,7 @@ ghost use Rattle.trace_model.specs.Packets.{Packet, with_more};
 ghost use Rattle.cut_steps.specs.Writing.{with_open};
 ghost use Rattle.trace_base.specs.declared.policy.WriterPolicy.TheVariants.{Drops, Stalls, StallsThenDrops};
 ghost use Rattle.trace_writer.specs.Helping.{IsWork, loses};
+ghost use Rattle.trace_writer.specs.Moments.{at_step};
 ghost use Rattle.trace_writer.specs.OwnSteps.{IsQuiet, MakesRound};
 ghost use Rattle.trace_writer.specs.Flows.{Flows, Continues, SetsLength, StopsHere, IsInPacket, HasToRunOn, Writes, is_stopped};
 
@@ -46,7 +47,7 @@ pub(crate) fn run_on<W: Words, L: Ledger, H: HelperOn<W>>(
     ensures flow { Continues (W.means.setup table.old) (W.means.place seat.old) route.now (W.means.view table.old seat.old)
         (W.means.view table.new seat.new) pending.old pending.new fragment result }
     ensures work { IsWork W.means H.needs H.helps false
-        route.now help.old table.old seat.old steps.old (is_stopped result) help.new table.new seat.new steps.new }
+        route.now (at_step help.old table.old seat.old steps.old) (is_stopped result) (at_step help.new table.new seat.new steps.new) }
 {
     match route.spec.policy {
         WriterPolicy::Drops => run_on_or_drop(route, table, seat, pending, fragment, steps),
@@ -110,7 +111,7 @@ fn run_on_or_try<W: Words, L: Ledger, H: HelperOn<W>>(
     ensures flow { Continues (W.means.setup table.old) (W.means.place seat.old) route.now (W.means.view table.old seat.old)
         (W.means.view table.new seat.new) pending.old pending.new fragment result }
     ensures work { IsWork W.means H.needs H.helps false
-        route.now help.old table.old seat.old steps.old (is_stopped result) help.new table.new seat.new steps.new }
+        route.now (at_step help.old table.old seat.old steps.old) (is_stopped result) (at_step help.new table.new seat.new steps.new) }
 {
     let next_position = fragment.held.position + 1;
     let Some(next) = claim_trying(route, table, seat, help, tries, next_position, steps) else {
@@ -141,7 +142,7 @@ fn run_on_or_stall<W: Words, L: Ledger, H: HelperOn<W>>(
     ensures flow { Continues (W.means.setup table.old) (W.means.place seat.old) route.now (W.means.view table.old seat.old)
         (W.means.view table.new seat.new) pending.old pending.new fragment result }
     ensures work { IsWork W.means H.needs H.helps false
-        route.now help.old table.old seat.old steps.old (is_stopped result) help.new table.new seat.new steps.new }
+        route.now (at_step help.old table.old seat.old steps.old) (is_stopped result) (at_step help.new table.new seat.new steps.new) }
 {
     let next_position = fragment.held.position + 1;
     let chunk = fragment.end();
@@ -197,7 +198,7 @@ pub(crate) fn put_piece<W: Words, L: Ledger, H: HelperOn<W>>(
     ensures flow { Flows (W.means.setup table.old) (W.means.place seat.old) route.now (W.means.view table.old seat.old)
         (W.means.view table.new seat.new) pending.old pending.new fragment piece.now result }
     ensures work { IsWork W.means H.needs H.helps false
-        route.now help.old table.old seat.old steps.old (is_stopped result) help.new table.new seat.new steps.new }
+        route.now (at_step help.old table.old seat.old steps.old) (is_stopped result) (at_step help.new table.new seat.new steps.new) }
 {
     let mut fragment = fragment;
     let mut rest = piece;
@@ -233,7 +234,7 @@ pub(crate) fn put_times<W: Words, L: Ledger, H: HelperOn<W>>(
     ensures flow { Flows (W.means.setup table.old) (W.means.place seat.old) route.now (W.means.view table.old seat.old)
         (W.means.view table.new seat.new) pending.old pending.new fragment (repeat times piece.now) result }
     ensures work { IsWork W.means H.needs H.helps false
-        route.now help.old table.old seat.old steps.old (is_stopped result) help.new table.new seat.new steps.new }
+        route.now (at_step help.old table.old seat.old steps.old) (is_stopped result) (at_step help.new table.new seat.new steps.new) }
 {
     let mut fragment = fragment;
     for _turn in 0..times {
@@ -268,7 +269,7 @@ pub(crate) fn put_length<W: Words, L: Ledger, H: HelperOn<W>>(
     ensures flow { SetsLength (W.means.setup table.old) (W.means.place seat.old) route.now (W.means.view table.old seat.old)
         (W.means.view table.new seat.new) pending.old pending.new fragment result }
     ensures work { IsWork W.means H.needs H.helps false
-        route.now help.old table.old seat.old steps.old (is_stopped result) help.new table.new seat.new steps.new }
+        route.now (at_step help.old table.old seat.old steps.old) (is_stopped result) (at_step help.new table.new seat.new steps.new) }
 {
     let mut fragment = fragment;
     if fragment.put_hole(pending) {
@@ -305,7 +306,7 @@ pub(crate) fn put_field<W: Words, L: Ledger, H: HelperOn<W>>(
         (W.means.view table.new seat.new) pending.old pending.new fragment (length head.now + times * length text.now)
         (with_more (head.now ++ repeat times text.now)) result }
     ensures work { IsWork W.means H.needs H.helps false
-        route.now help.old table.old seat.old steps.old (is_stopped result) help.new table.new seat.new steps.new }
+        route.now (at_step help.old table.old seat.old steps.old) (is_stopped result) (at_step help.new table.new seat.new steps.new) }
 {
     match put_piece(route, table, seat, help, pending, fragment, head, steps) {
         Flow::Going(next) => put_times(route, table, seat, help, pending, next, text, times, steps),
@@ -333,7 +334,7 @@ pub(crate) fn put_nested<W: Words, L: Ledger, H: HelperOn<W>>(
         (W.means.view table.new seat.new) pending.old pending.new fragment (length tag.now + 4)
         (λ (packet : Packet). with_open (with_more tag.now packet)) result }
     ensures work { IsWork W.means H.needs H.helps false
-        route.now help.old table.old seat.old steps.old (is_stopped result) help.new table.new seat.new steps.new }
+        route.now (at_step help.old table.old seat.old steps.old) (is_stopped result) (at_step help.new table.new seat.new steps.new) }
 {
     match put_piece(route, table, seat, help, pending, fragment, tag, steps) {
         Flow::Going(next) => put_length(route, table, seat, help, pending, next, steps),

@@ -1,25 +1,24 @@
 //! A writer with its seat: what its callers have.
-ghost use Rattle.std.specs.Prelude.{◌≡◌, ℕ, ◌+◌, ◌-◌, ◌*◌, ◌<◌, ◌≤◌, Bool, true, false, Some, None, [], ◌∷◌, ◌++◌, length, slice_get, IfOk, IfErr, MatchResult};
+ghost use Rattle.std.specs.Prelude.{◌≡◌, ℕ, ◌+◌, ◌-◌, ◌*◌, ◌<◌, ◌≤◌, Bool, true, false, Some, None, length, slice_get, IfOk, IfErr};
 ghost use Rattle.chunk_plain.specs.declared.tokens.TheConstants.{POSITION_LIMIT};
 ghost use Rattle.trace_writer.specs.declared.ids.TheConstants.{PACKET_IDS};
 ghost use Rattle.trace_base.specs.declared.limits.TheConstants.{MAX_FIELD, MAX_INPUT, MAX_OPEN_HOLES};
 ghost use Rattle.trace_base.specs.declared.policy.WriterPolicy.TheVariants.{Drops};
 ghost use Rattle.page_geometry.specs.Sizes.{payload_size};
 ghost use Rattle.trace_model.specs.Calls as call;
-ghost use Rattle.trace_model.specs.Encoding.{number_field, bytes_head, nested_tag};
+ghost use Rattle.trace_model.specs.Encoding.{number_field, nested_tag};
 ghost use Rattle.trace_model.specs.Packets.{begun_count, dropped_at_begin};
 ghost use Rattle.chunk_plain.specs.Setup.{Setup, spot, range_of, producer_of, HasProducer, IsChunkOf};
 ghost use Rattle.chunk_plain.specs.Views.{WriterView, newcomer};
-ghost use Rattle.chunk_plain.specs.Meaning.{IsWriterStep};
 ghost use Rattle.claim_arbiter.specs.Claiming.{range_in};
 ghost use Rattle.trace_writer.specs.Agreement.{is_begun, len_of, open_message_count, counted};
-ghost use Rattle.trace_writer.specs.Asked.{IsAsked, LeavesAll, begun_as, written_as, stops_with};
-ghost use Rattle.trace_writer.specs.declared.fault.CallFault.TheVariants as call_fault;
-ghost use Rattle.trace_writer.specs.Helping.{LeavesOthers};
+ghost use Rattle.trace_writer.specs.Asked.{stops_with};
+ghost use Rattle.trace_writer.specs.Calling.{Stands, MayCall, MakesCall, NotesCall};
 ghost use Rattle.chunk_plain.specs.Histories.{completed_images};
-ghost use Rattle.trace_writer.specs.OwnSteps.{IsQuiet};
+ghost use Rattle.trace_writer.specs.Moments.{at_call};
 ghost use Rattle.trace_writer.specs.Refusals.{field_refusal, nested_refusal};
-ghost use Rattle.trace_writer.specs.Core.{CoreAgrees, in_packet, open_depth, field_fault, nested_fault, bytes_size, holds_chunk, is_stalled, route_of, refusal_of, begins_here, FitsHere};
+ghost use Rattle.trace_writer.specs.Core.{CoreAgrees, in_packet, open_depth, bytes_size, holds_chunk};
+ghost use Rattle.trace_writer.specs.Core.{is_stalled, route_of, begins_here, FitsHere};
 
 use crate::begin::begin;
 use crate::fault::{Begun, CallFault};
@@ -87,31 +86,14 @@ impl<S> WriterCore<S> {
         help: &mut H,
         steps: &mut Steps<L>,
     ) -> Result<Begun, CallFault>
-        requires seat { W.means.sits table.old self.old.seat }
-        requires needs { H.needs help.old table.old }
-        requires agrees { CoreAgrees (W.means.setup table.old) (W.means.place self.old.seat) (W.means.view table.old self.old.seat)
-            self.old }
+        requires may_call { MayCall W.means H.needs (at_call self.old help.old table.old steps.old) }
         requires none_begun { in_packet (W.means.view table.old self.old.seat) ≡ false }
         requires ids { length (W.means.view table.old self.old.seat).begun + PACKET_IDS ≤ POSITION_LIMIT }
-        ensures agrees { CoreAgrees (W.means.setup table.old) (W.means.place self.old.seat) (W.means.view table.new self.new.seat)
-            self.new }
-        ensures needs { H.needs help.new table.new }
-        ensures others { LeavesOthers W.means table.old self.old.seat table.new self.new.seat }
-        ensures refused { (fault : CallFault) → refusal_of self.old None ≡ Some fault
-            → LeavesAll fault result self.old self.new table.old table.new help.old help.new steps.old steps.new }
-        ensures answers { refusal_of self.old None ≡ None
-            → MatchResult result (λ _. is_stalled self.new ≡ false) (λ fault. (fault ≡ call_fault.Stalled) × (is_stalled self.new ≡ true)) }
-        ensures done { refusal_of self.old None ≡ None →
-            IsAsked W.means H.needs H.helps true
-            (route_of self.old) help.old table.old self.old.seat steps.old (stops_with result)
-            (begun_as (stops_with result) (route_of self.old).spec.policy)
-            (is_stalled self.new) help.new table.new self.new.seat steps.new }
+        ensures call { MakesCall W.means H.needs H.helps (call.Begun true) (stops_with result)
+            (at_call self.old help.old table.old steps.old) result (at_call self.new help.new table.new steps.new) }
         ensures asked { begins_here self.old → (W.means.view table.new self.new.seat).asked ≡ (W.means.view table.old self.old.seat).asked }
         ensures in_packet { IfOk result (λ _. in_packet (W.means.view table.new self.new.seat) ≡ true) }
         ensures depth { IfOk result (λ _. open_depth (W.means.view table.new self.new.seat) ≡ 0) }
-        ensures route { route_of self.new ≡ route_of self.old }
-        ensures alone { (route_of self.old).spec.policy ≡ Drops → (help.new ≡ help.old)
-            × IsWriterStep W.means table.old self.old.seat table.new self.new.seat }
         ensures few_steps { (route_of self.old).spec.policy ≡ Drops → steps.new ≤ steps.old + (route_of self.old).arbiter.chunks + 1 }
     {
         begin(&mut self.writer, table, &mut self.seat, help, steps)
@@ -126,37 +108,15 @@ impl<S> WriterCore<S> {
         value: u64,
         steps: &mut Steps<L>,
     ) -> Result<(), CallFault>
-        requires seat { W.means.sits table.old self.old.seat }
-        requires needs { H.needs help.old table.old }
-        requires agrees { CoreAgrees (W.means.setup table.old) (W.means.place self.old.seat) (W.means.view table.old self.old.seat)
-            self.old }
+        requires may_call { MayCall W.means H.needs (at_call self.old help.old table.old steps.old) }
         requires begun { in_packet (W.means.view table.old self.old.seat) ≡ true }
-        requires least { 1 ≤ field }
-        requires most { field ≤ MAX_FIELD }
-        ensures agrees { CoreAgrees (W.means.setup table.old) (W.means.place self.old.seat) (W.means.view table.new self.new.seat)
-            self.new }
-        ensures needs { H.needs help.new table.new }
-        ensures others { LeavesOthers W.means table.old self.old.seat table.new self.new.seat }
-        ensures refused { (fault : CallFault)
-            → refusal_of self.old (field_fault (W.means.view table.old self.old.seat) field (length (number_field field value)))
-            ≡ Some fault
-            → LeavesAll fault result self.old self.new table.old table.new help.old help.new steps.old steps.new }
-        ensures answers { refusal_of self.old (field_fault (W.means.view table.old self.old.seat) field
-            (length (number_field field value))) ≡ None
-            → MatchResult result (λ _. is_stalled self.new ≡ false) (λ fault. (fault ≡ call_fault.Stalled) × (is_stalled self.new ≡ true)) }
-        ensures done { refusal_of self.old (field_fault (W.means.view table.old self.old.seat) field (length (number_field field value)))
-            ≡ None → (stopped : Bool) ×
-            IsAsked W.means H.needs H.helps false
-            (route_of self.old) help.old table.old self.old.seat steps.old stopped
-            (written_as stopped (route_of self.old).spec.policy (call.Number field value))
-            (is_stalled self.new) help.new table.new self.new.seat steps.new }
+        requires field { (1 ≤ field) × (field ≤ MAX_FIELD) }
+        ensures call { (stopped : Bool) × MakesCall W.means H.needs H.helps (call.Number field value) stopped
+            (at_call self.old help.old table.old steps.old) result (at_call self.new help.new table.new steps.new) }
         ensures asked { FitsHere self.old (length (number_field field value))
             → (W.means.view table.new self.new.seat).asked ≡ (W.means.view table.old self.old.seat).asked }
         ensures in_packet { in_packet (W.means.view table.new self.new.seat) ≡ true }
         ensures depth { open_depth (W.means.view table.new self.new.seat) ≡ open_depth (W.means.view table.old self.old.seat) }
-        ensures route { route_of self.new ≡ route_of self.old }
-        ensures alone { (route_of self.old).spec.policy ≡ Drops → (help.new ≡ help.old)
-            × IsWriterStep W.means table.old self.old.seat table.new self.new.seat }
     {
         let size = number_size(field, value);
         check_field(&self.writer.packet, field, u64::from(size))?;
@@ -182,37 +142,16 @@ impl<S> WriterCore<S> {
         times: u32,
         steps: &mut Steps<L>,
     ) -> Result<(), CallFault>
-        requires seat { W.means.sits table.old self.old.seat }
-        requires needs { H.needs help.old table.old }
-        requires agrees { CoreAgrees (W.means.setup table.old) (W.means.place self.old.seat) (W.means.view table.old self.old.seat)
-            self.old }
+        requires may_call { MayCall W.means H.needs (at_call self.old help.old table.old steps.old) }
         requires begun { in_packet (W.means.view table.old self.old.seat) ≡ true }
-        requires least { 1 ≤ field }
-        requires most { field ≤ MAX_FIELD }
+        requires field { (1 ≤ field) × (field ≤ MAX_FIELD) }
         requires text { length value.now ≤ MAX_INPUT }
-        ensures agrees { CoreAgrees (W.means.setup table.old) (W.means.place self.old.seat) (W.means.view table.new self.new.seat)
-            self.new }
-        ensures needs { H.needs help.new table.new }
-        ensures others { LeavesOthers W.means table.old self.old.seat table.new self.new.seat }
-        ensures refused { (fault : CallFault)
-            → refusal_of self.old (field_fault (W.means.view table.old self.old.seat) field (bytes_size field times value.now)) ≡ Some fault
-            → LeavesAll fault result self.old self.new table.old table.new help.old help.new steps.old steps.new }
-        ensures answers { refusal_of self.old (field_fault (W.means.view table.old self.old.seat) field (bytes_size field times value.now))
-            ≡ None
-            → MatchResult result (λ _. is_stalled self.new ≡ false) (λ fault. (fault ≡ call_fault.Stalled) × (is_stalled self.new ≡ true)) }
-        ensures done { refusal_of self.old (field_fault (W.means.view table.old self.old.seat) field (bytes_size field times value.now))
-            ≡ None → (stopped : Bool) ×
-            IsAsked W.means H.needs H.helps false
-            (route_of self.old) help.old table.old self.old.seat steps.old stopped
-            (written_as stopped (route_of self.old).spec.policy (call.Bytes field value.now times))
-            (is_stalled self.new) help.new table.new self.new.seat steps.new }
+        ensures call { (stopped : Bool) × MakesCall W.means H.needs H.helps (call.Bytes field value.now times) stopped
+            (at_call self.old help.old table.old steps.old) result (at_call self.new help.new table.new steps.new) }
         ensures asked { FitsHere self.old (bytes_size field times value.now)
             → (W.means.view table.new self.new.seat).asked ≡ (W.means.view table.old self.old.seat).asked }
         ensures in_packet { in_packet (W.means.view table.new self.new.seat) ≡ true }
         ensures depth { open_depth (W.means.view table.new self.new.seat) ≡ open_depth (W.means.view table.old self.old.seat) }
-        ensures route { route_of self.new ≡ route_of self.old }
-        ensures alone { (route_of self.old).spec.policy ≡ Drops → (help.new ≡ help.old)
-            × IsWriterStep W.means table.old self.old.seat table.new self.new.seat }
     {
         let len = u64::from(times) * value.len() as u64;
         // A longer one is refused, whatever stands before it.
@@ -241,32 +180,14 @@ impl<S> WriterCore<S> {
         field: u32,
         steps: &mut Steps<L>,
     ) -> Result<(), CallFault>
-        requires seat { W.means.sits table.old self.old.seat }
-        requires needs { H.needs help.old table.old }
-        requires agrees { CoreAgrees (W.means.setup table.old) (W.means.place self.old.seat) (W.means.view table.old self.old.seat)
-            self.old }
+        requires may_call { MayCall W.means H.needs (at_call self.old help.old table.old steps.old) }
         requires begun { in_packet (W.means.view table.old self.old.seat) ≡ true }
-        requires least { 1 ≤ field }
-        requires most { field ≤ MAX_FIELD }
-        ensures agrees { CoreAgrees (W.means.setup table.old) (W.means.place self.old.seat) (W.means.view table.new self.new.seat)
-            self.new }
-        ensures needs { H.needs help.new table.new }
-        ensures others { LeavesOthers W.means table.old self.old.seat table.new self.new.seat }
-        ensures refused { (fault : CallFault) → refusal_of self.old (nested_fault (W.means.view table.old self.old.seat) field) ≡ Some fault
-            → LeavesAll fault result self.old self.new table.old table.new help.old help.new steps.old steps.new }
-        ensures answers { refusal_of self.old (nested_fault (W.means.view table.old self.old.seat) field) ≡ None
-            → MatchResult result (λ _. is_stalled self.new ≡ false) (λ fault. (fault ≡ call_fault.Stalled) × (is_stalled self.new ≡ true)) }
-        ensures done { refusal_of self.old (nested_fault (W.means.view table.old self.old.seat) field) ≡ None → (stopped : Bool) ×
-            IsAsked W.means H.needs H.helps false
-            (route_of self.old) help.old table.old self.old.seat steps.old stopped
-            (written_as stopped (route_of self.old).spec.policy (call.Nested field))
-            (is_stalled self.new) help.new table.new self.new.seat steps.new }
+        requires field { (1 ≤ field) × (field ≤ MAX_FIELD) }
+        ensures call { (stopped : Bool) × MakesCall W.means H.needs H.helps (call.Nested field) stopped
+            (at_call self.old help.old table.old steps.old) result (at_call self.new help.new table.new steps.new) }
         ensures asked { FitsHere self.old (length (nested_tag field) + 4)
             → (W.means.view table.new self.new.seat).asked ≡ (W.means.view table.old self.old.seat).asked }
         ensures in_packet { in_packet (W.means.view table.new self.new.seat) ≡ true }
-        ensures route { route_of self.new ≡ route_of self.old }
-        ensures alone { (route_of self.old).spec.policy ≡ Drops → (help.new ≡ help.old)
-            × IsWriterStep W.means table.old self.old.seat table.new self.new.seat }
     {
         let size = nested_tag_size(field);
         check_nested(&self.writer.packet, field, size)?;
@@ -283,65 +204,38 @@ impl<S> WriterCore<S> {
 
     /// Ends the innermost nested message. Where the writer stalls nothing changes.
     pub fn end_nested<W: Words<Writer = S>>(&mut self, table: &mut W)
-        requires seat { W.means.sits table.old self.old.seat }
-        requires agrees { CoreAgrees (W.means.setup table.old) (W.means.place self.old.seat) (W.means.view table.old self.old.seat)
-            self.old }
+        requires stands { Stands W.means table.old self.old }
         requires depth { 0 < open_depth (W.means.view table.old self.old.seat) }
-        ensures agrees { CoreAgrees (W.means.setup table.old) (W.means.place self.old.seat) (W.means.view table.new self.new.seat)
-            self.new }
-        ensures stalled { is_stalled self.old ≡ true → (self.new ≡ self.old) × (table.new ≡ table.old) }
-        ensures goes { is_stalled self.new ≡ is_stalled self.old }
-        ensures notes { is_stalled self.old ≡ false
-            → (W.means.view table.new self.new.seat).calls ≡ (W.means.view table.old self.old.seat).calls ++ call.Ended ∷ [] }
+        ensures call { NotesCall W.means call.Ended table.old self.old table.new self.new }
         ensures others { record (W.means.view table.new self.new.seat) { calls = (W.means.view table.old self.old.seat).calls }
-            ≡ (W.means.view table.old self.old.seat) }
+            ≡ W.means.view table.old self.old.seat }
         ensures in_packet { in_packet (W.means.view table.new self.new.seat) ≡ true }
         ensures depth_falls { is_stalled self.old ≡ false
             → open_depth (W.means.view table.new self.new.seat) + 1 ≡ open_depth (W.means.view table.old self.old.seat) }
-        ensures route { route_of self.new ≡ route_of self.old }
-        ensures quiet { IsQuiet W.means table.old self.old.seat table.new self.new.seat }
     {
         end_message(&mut self.writer, table, &mut self.seat);
     }
 
     /// Ends the packet. Where the writer stalls nothing changes.
     pub fn finish<W: Words<Writer = S>>(&mut self, table: &mut W)
-        requires seat { W.means.sits table.old self.old.seat }
-        requires agrees { CoreAgrees (W.means.setup table.old) (W.means.place self.old.seat) (W.means.view table.old self.old.seat)
-            self.old }
+        requires stands { Stands W.means table.old self.old }
         requires begun { in_packet (W.means.view table.old self.old.seat) ≡ true }
         requires depth { open_depth (W.means.view table.old self.old.seat) ≡ 0 }
-        ensures agrees { CoreAgrees (W.means.setup table.old) (W.means.place self.old.seat) (W.means.view table.new self.new.seat)
-            self.new }
-        ensures stalled { is_stalled self.old ≡ true → (self.new ≡ self.old) × (table.new ≡ table.old) }
-        ensures goes { is_stalled self.new ≡ is_stalled self.old }
-        ensures notes { is_stalled self.old ≡ false
-            → (W.means.view table.new self.new.seat).calls ≡ (W.means.view table.old self.old.seat).calls ++ call.Finished ∷ [] }
+        ensures call { NotesCall W.means call.Finished table.old self.old table.new self.new }
         ensures others { record (W.means.view table.new self.new.seat) { calls = (W.means.view table.old self.old.seat).calls }
-            ≡ (W.means.view table.old self.old.seat) }
+            ≡ W.means.view table.old self.old.seat }
         ensures in_packet { is_stalled self.old ≡ false → in_packet (W.means.view table.new self.new.seat) ≡ false }
-        ensures route { route_of self.new ≡ route_of self.old }
-        ensures quiet { IsQuiet W.means table.old self.old.seat table.new self.new.seat }
     {
         finish(&mut self.writer, table, &mut self.seat);
     }
 
     /// Completes the held chunk, where there is one. Where the writer stalls nothing changes.
     pub fn flush<W: Words<Writer = S>>(&mut self, table: &mut W)
-        requires seat { W.means.sits table.old self.old.seat }
-        requires agrees { CoreAgrees (W.means.setup table.old) (W.means.place self.old.seat) (W.means.view table.old self.old.seat)
-            self.old }
+        requires stands { Stands W.means table.old self.old }
         requires none_begun { in_packet (W.means.view table.old self.old.seat) ≡ false }
-        ensures agrees { CoreAgrees (W.means.setup table.old) (W.means.place self.old.seat) (W.means.view table.new self.new.seat)
-            self.new }
+        ensures call { NotesCall W.means call.Flushed table.old self.old table.new self.new }
         ensures none_held { holds_chunk self.new ≡ false }
-        ensures stalled { is_stalled self.old ≡ true → (self.new ≡ self.old) × (table.new ≡ table.old) }
-        ensures goes { is_stalled self.new ≡ is_stalled self.old }
-        ensures notes { is_stalled self.old ≡ false
-            → (W.means.view table.new self.new.seat).calls ≡ (W.means.view table.old self.old.seat).calls ++ call.Flushed ∷ [] }
         ensures in_packet { in_packet (W.means.view table.new self.new.seat) ≡ false }
-        ensures route { route_of self.new ≡ route_of self.old }
-        ensures quiet { IsQuiet W.means table.old self.old.seat table.new self.new.seat }
     {
         flush(&mut self.writer, table, &mut self.seat);
     }

@@ -18,6 +18,7 @@ use Rattle.trace_writer.specs.declared.route.Route.{Route}
 use Rattle.trace_writer.specs.Asked.{IsAsked}
 use Rattle.trace_writer.specs.Claims.{AreOwnAsks, AreOwnChunks, HasAsked, KeepsClaims}
 use Rattle.trace_writer.specs.Helping.{LeavesWriters, Tries, Gains, Again, Ends, Works, Done, Silent, Gets, Helped, Refused, Lost, Tried, GivesUp, loses}
+use Rattle.trace_writer.specs.Moments.{CallMoment, view_at}
 use Rattle.trace_writer.specs.OwnSteps.{KeepsChunks, IsQuiet, IsSilent, GetsChunk, IsInVain, IsVainTry, IsOutNow}
 
 -- Lists
@@ -241,12 +242,14 @@ module _ {H T W S : Type 0} (means : Meaning T W S) (needs : H → T → Type 0)
       }
 
   -- the writer keeps what it has of its claims, if the call loses a packet only where it stops
-  pub claims_kept : {begins : Bool} (there : Setup) (at : ℕ) (route : Route) (helper : H) (old : T) (seat : W) (steps : ℕ) (stopped : Bool) (noted : List Call) (stalled : Bool) (left : H) (new : T) (after : W) (later : ℕ)
-      → range_of there (producer_of there at) ≡ range_in route.arbiter → slice_get there.writers at ≡ Some route.spec
-      → IsAsked means needs helps begins route helper old seat steps stopped noted stalled left new after later
-      → (lost_count (packets_of (means.view new after).calls) ≡ lost_count (packets_of (means.view old seat).calls)) ⊎ ((loses route.spec.policy ≡ true) × (stopped ≡ true))
-      → KeepsClaims there at (means.view old seat) → KeepsClaims there at (means.view new after)
-  claims_kept there at route helper old seat steps stopped noted stalled left new after later range own asked lost claims =
+  pub claims_kept : {begins stopped : Bool} {noted : List Call} {before behind : CallMoment H T W} (there : Setup) (at : ℕ)
+      → range_of there (producer_of there at) ≡ range_in before.core.writer.route.arbiter → slice_get there.writers at ≡ Some before.core.writer.route.spec
+      → IsAsked means needs helps begins stopped noted before behind
+      → (lost_count (packets_of (view_at means behind).calls) ≡ lost_count (packets_of (view_at means before).calls))
+      ⊎ ((loses before.core.writer.route.spec.policy ≡ true) × (stopped ≡ true))
+      → KeepsClaims there at (view_at means before) → KeepsClaims there at (view_at means behind)
+  claims_kept {before = before} there at range own asked lost claims =
+      let route = before.core.writer.route in
       let on = works_keep there (producer_of there at) route range asked.works
       (record { unclaimed = claims.unclaimed; unstamped = claims.unstamped; own_asks = claims.own_asks; own_chunks = claims.own_chunks }) in
       record {

@@ -5,6 +5,7 @@ use Rattle.chunk_plain.specs.Setup.{Setup}
 use Rattle.trace_writer.specs.declared.route.Route.{Route}
 use Rattle.trace_writer.specs.AtWork.{MayAsk}
 use Rattle.trace_writer.specs.Helping.{IsWork}
+use Rattle.trace_writer.specs.Moments.{at_step}
 use Rattle.trace_writer.specs.Site.{IsRoute}
 
 route_there : (setup now : Setup) (place there : ℕ) (route : Route) → now ≡ setup → there ≡ place → IsRoute setup place route → IsRoute now there route
@@ -21,7 +22,7 @@ module _ {H T W S : Type 0} {means : Meaning T W S} {needs : H → T → Type 0}
   }
 
   pub asks_behind_work : {helps : H → T → ℕ → Bool → H → T → Type 0} {begins stopped : Bool} {steps later : ℕ} {left : H} {new : T} {after : W}
-      → IsWork means needs helps begins route helper old seat steps stopped left new after later → MayAsk means needs route helper old seat → MayAsk means needs route left new after
+      → IsWork means needs helps begins route (at_step helper old seat steps) stopped (at_step left new after later) → MayAsk means needs route helper old seat → MayAsk means needs route left new after
   asks_behind_work {new = new} {after = after} work may = record {
     seat_sits = work.others.seat_stays;
     needed = work.needed;

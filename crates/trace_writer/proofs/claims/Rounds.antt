@@ -9,6 +9,7 @@ use Rattle.chunk_plain.specs.World.{World, Unclaimed, Writing, status}
 use Rattle.claim_arbiter.specs.Claiming.{AsksInVain, ClaimsInTurn, NoneFree}
 use Rattle.trace_writer.specs.declared.route.Route.{Route}
 use Rattle.trace_writer.specs.Helping.{IsWork}
+use Rattle.trace_writer.specs.Moments.{at_step}
 use Rattle.trace_writer.specs.OwnSteps.{NoneHeld, MakesRound}
 use Rattle.trace_writer.proofs.claims.Asking.{won_counts, lost_counts, gets_chunk, out_now}
 use Rattle.trace_writer.proofs.holding.KeptChunks.{keeps_long}
@@ -27,7 +28,7 @@ module _ {H T W S : Type 0} (means : Meaning T W S) (needs : H → T → Type 0)
       → IfNone answer (later ≡ steps + route.arbiter.chunks)
       → IfNone answer ((world : World) → means.told old ≡ Some world → NoneFree world route.arbiter.first (route.arbiter.first + route.arbiter.chunks)
       × (means.told new ≡ Some (with_writer_view world (means.place seat) (means.view new after))))
-      → IsWork means needs helps begins route helper old seat steps (not (is_some answer)) helper new after later
+      → IsWork means needs helps begins route (at_step helper old seat steps) (not (is_some answer)) (at_step helper new after later)
   round_work route helper old seat steps position new after later (Some held) keeps needed drops none step won steps_won told_won lost steps_lost told_lost =
       work_gets means needs helps route helper old seat steps new after later keeps needed
       (gets_chunk means route held.chunk position old seat new after step won told_won)
@@ -42,7 +43,7 @@ module _ {H T W S : Type 0} (means : Meaning T W S) (needs : H → T → Type 0)
       → ((helper : H) (old new : T) (seat after : W) → IsWriterStep means old seat new after → needs helper old → needs helper new)
       → needs helper old → route.spec.policy ≡ Drops → MakesRound means route stopped old seat new after
       → later + (length (means.view old seat).asked + length (means.view old seat).begun) ≡ steps + (length (means.view new after).asked + length (means.view new after).begun)
-      → IsWork means needs helps begins route helper old seat steps stopped helper new after later
+      → IsWork means needs helps begins route (at_step helper old seat steps) stopped (at_step helper new after later)
   round_is_work route helper old seat steps false new after later keeps needed drops round counts =
       let mid = round.0 in let between = round.1 in let gets = round.2 in let silent = round.3 in
       let asks = ap length silent.quiet.asked in let chunks = keeps_long (means.view mid between).begun (means.view new after).begun silent.quiet.chunks in

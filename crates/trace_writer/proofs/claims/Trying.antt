@@ -12,6 +12,7 @@ use Rattle.chunk_plain.proofs.SeatSteps.{stays}
 use Rattle.claim_arbiter.specs.Claiming.{AsksInVain, ClaimsInTurn, NoneFree}
 use Rattle.trace_writer.specs.declared.route.Route.{Route}
 use Rattle.trace_writer.specs.Helping.{LeavesWriters, LeavesOthers, Tries, Gains, Again, Ends, Done, Tried, GivesUp, IsWork}
+use Rattle.trace_writer.specs.Moments.{at_step}
 use Rattle.trace_writer.specs.OwnSteps.{NoneHeld, GetsChunk, IsVainTry}
 use Rattle.trace_writer.proofs.claims.Asking.{won_counts, lost_counts, gets_chunk, in_vain}
 use Rattle.trace_writer.proofs.claims.QuietRows.{silent_none}
@@ -73,7 +74,7 @@ module _ {H T W S : Type 0} (means : Meaning T W S) (needs : H → T → Type 0)
       → route.spec.policy ≡ StallsThenDrops tries
       → IsTrying means needs helps begins route tries helper old seat steps left middle mid between half → GetsChunk means route mid between new after
       → later + (length (means.view mid between).asked + length (means.view mid between).begun) ≡ half + (length (means.view new after).asked + length (means.view new after).begun)
-      → IsWork means needs helps begins route helper old seat steps false middle new after later
+      → IsWork means needs helps begins route (at_step helper old seat steps) false (at_step middle new after later)
   trying_gets route tries helper old seat steps left middle mid between half new after later keeps trying on gets counts = record {
     others = leaves_both means needs helps old seat mid between new after on.others (leaves_own means needs helps mid between new after gets.step);
     works = Tried helper old seat tries middle new after false middle new after trying (on.rest false middle new after (Gains left middle mid between new after gets))
@@ -88,7 +89,7 @@ module _ {H T W S : Type 0} (means : Meaning T W S) (needs : H → T → Type 0)
       → route.spec.policy ≡ StallsThenDrops tries
       → IsTrying means needs helps begins route tries helper old seat steps left middle mid between half → left ≡ 0 → IsVainTry means route begins mid between new after
       → later + (length (means.view mid between).asked + length (means.view mid between).begun) ≡ half + (length (means.view new after).asked + length (means.view new after).begun)
-      → IsWork means needs helps begins route helper old seat steps true middle new after later
+      → IsWork means needs helps begins route (at_step helper old seat steps) true (at_step middle new after later)
   trying_ends {begins} route tries helper old seat steps left middle mid between half new after later keeps trying on none vain counts = record {
     others = leaves_both means needs helps old seat mid between new after on.others (leaves_own means needs helps mid between new after vain.vain.step);
     works = GivesUp helper old seat tries middle new after new after trying
@@ -114,7 +115,7 @@ module _ {H T W S : Type 0} (means : Meaning T W S) (needs : H → T → Type 0)
       → IfNone answer (later ≡ half + route.arbiter.chunks)
       → IfNone answer ((world : World) → means.told mid ≡ Some world → NoneFree world route.arbiter.first (route.arbiter.first + route.arbiter.chunks)
       × (means.told new ≡ Some (with_writer_view world (means.place between) (means.view new after))))
-      → IsWork means needs helps begins route helper old seat steps (not (is_some answer)) middle new after later
+      → IsWork means needs helps begins route (at_step helper old seat steps) (not (is_some answer)) (at_step middle new after later)
   tried_last route tries helper old seat steps left middle mid between half position new after later (Some held) keeps trying on none holds step won steps_won told_won lost steps_lost told_lost =
       trying_gets route tries helper old seat steps left middle mid between half new after later keeps trying on
       (gets_chunk means route held.chunk position mid between new after step won told_won)

@@ -8,9 +8,12 @@ use Rattle.chunk_plain.specs.Views.{WriterView}
 use Rattle.chunk_plain.specs.Meaning.{Meaning, IsWriterStep}
 use Rattle.chunk_plain.proofs.SeatSteps.{stays, steps_follow}
 use Rattle.trace_writer.specs.declared.route.Route.{Route}
+use Rattle.trace_writer.specs.declared.state.Writer.{Writer}
 use Rattle.trace_writer.specs.OwnSteps.{IsQuiet, IsSilent, GetsChunk, IsVainTry, IsOutNow}
 use Rattle.trace_writer.specs.Asked.{IsAsked}
+use Rattle.trace_writer.specs.Empty.{is_stalled}
 use Rattle.trace_writer.specs.Helping.{LeavesWriters, LeavesOthers, Works, Done, Silent, Gets, Helped, Refused, Lost, Tried, GivesUp, IsWork, refuses}
+use Rattle.trace_writer.specs.Moments.{CallMoment, at_step, moment}
 use Rattle.trace_writer.proofs.claims.FewSteps.{works_few}
 use Rattle.trace_writer.proofs.claims.Losses.{works_lose}
 use Rattle.trace_writer.proofs.holding.KeptChunks.{keeps_long}
@@ -117,7 +120,7 @@ module _ {H T W S : Type 0} (means : Meaning T W S) (needs : H → T → Type 0)
 
   -- nothing was done
   pub work_none : {begins : Bool} (route : Route) (helper : H) (table : T) (seat : W) (steps : ℕ) → means.sits table seat → needs helper table
-      → IsWork means needs helps begins route helper table seat steps false helper table seat steps
+      → IsWork means needs helps begins route (at_step helper table seat steps) false (at_step helper table seat steps)
   work_none route helper table seat steps there needed = record {
     others = leaves_own table seat table seat (stays means table seat there);
     works = Done helper table seat table seat (silent_none means table seat there);
@@ -126,9 +129,9 @@ module _ {H T W S : Type 0} (means : Meaning T W S) (needs : H → T → Type 0)
   }
 
   pub work_behind : {begins : Bool} (route : Route) (helper : H) (old : T) (before : W) (steps : ℕ) (middle : H) (mid : T) (between : W) (half : ℕ) (stopped : Bool) (left : H) (new : T) (after : W) (later : ℕ)
-      → IsWork means needs helps begins route helper old before steps false middle mid between half
-      → IsWork means needs helps begins route middle mid between half stopped left new after later
-      → IsWork means needs helps begins route helper old before steps stopped left new after later
+      → IsWork means needs helps begins route (at_step helper old before steps) false (at_step middle mid between half)
+      → IsWork means needs helps begins route (at_step middle mid between half) stopped (at_step left new after later)
+      → IsWork means needs helps begins route (at_step helper old before steps) stopped (at_step left new after later)
   work_behind route helper old before steps middle mid between half stopped left new after later one two = record {
     others = leaves_both old before mid between new after one.others two.others;
     works = works_both route.spec.policy route (λ asked table answer behind freed. helps asked table route.spec.producer answer behind freed × LeavesWriters means table freed)
@@ -140,8 +143,8 @@ module _ {H T W S : Type 0} (means : Meaning T W S) (needs : H → T → Type 0)
   -- silent steps come first
   pub work_before : {begins : Bool} (route : Route) (helper : H) (old : T) (before : W) (steps : ℕ) (mid : T) (between : W) (stopped : Bool) (left : H) (new : T) (after : W) (later : ℕ)
       → IsSilent means old before mid between
-      → IsWork means needs helps begins route helper mid between steps stopped left new after later
-      → IsWork means needs helps begins route helper old before steps stopped left new after later
+      → IsWork means needs helps begins route (at_step helper mid between steps) stopped (at_step left new after later)
+      → IsWork means needs helps begins route (at_step helper old before steps) stopped (at_step left new after later)
   work_before route helper old before steps mid between stopped left new after later silent two = record {
     others = leaves_both old before mid between new after (leaves_own old before mid between silent.quiet.step) two.others;
     works = Silent helper old before mid between stopped left new after silent two.works;
@@ -152,9 +155,9 @@ module _ {H T W S : Type 0} (means : Meaning T W S) (needs : H → T → Type 0)
   -- or last
   pub work_then : {begins : Bool} (route : Route) (helper : H) (old : T) (before : W) (steps : ℕ) (stopped : Bool) (left : H) (mid : T) (between : W) (later : ℕ) (new : T) (after : W)
       → ((helper : H) (old new : T) (seat after : W) → IsWriterStep means old seat new after → needs helper old → needs helper new)
-      → IsWork means needs helps begins route helper old before steps stopped left mid between later
+      → IsWork means needs helps begins route (at_step helper old before steps) stopped (at_step left mid between later)
       → IsSilent means mid between new after
-      → IsWork means needs helps begins route helper old before steps stopped left new after later
+      → IsWork means needs helps begins route (at_step helper old before steps) stopped (at_step left new after later)
   work_then route helper old before steps stopped left mid between later new after keeps one silent = record {
     others = leaves_both old before mid between new after one.others (leaves_own mid between new after silent.quiet.step);
     works = works_then route.spec.policy route (λ asked table answer behind freed. helps asked table route.spec.producer answer behind freed × LeavesWriters means table freed)
@@ -168,7 +171,7 @@ module _ {H T W S : Type 0} (means : Meaning T W S) (needs : H → T → Type 0)
       → ((helper : H) (old new : T) (seat after : W) → IsWriterStep means old seat new after → needs helper old → needs helper new)
       → needs helper old → GetsChunk means route old seat new after
       → later + (length (means.view old seat).asked + length (means.view old seat).begun) ≡ steps + (length (means.view new after).asked + length (means.view new after).begun)
-      → IsWork means needs helps begins route helper old seat steps false helper new after later
+      → IsWork means needs helps begins route (at_step helper old seat steps) false (at_step helper new after later)
   work_gets route helper old seat steps new after later keeps needed gets counts = record {
     others = leaves_own old seat new after gets.step;
     works = Gets helper old seat new after false helper new after gets (Done helper new after new after (silent_none means new after gets.step.seat_stays));
@@ -181,7 +184,7 @@ module _ {H T W S : Type 0} (means : Meaning T W S) (needs : H → T → Type 0)
       → route.spec.policy ≡ Stalls → IsOutNow means route old seat asking asker
       → helps helper asking route.spec.producer true helped freed → LeavesWriters means asking freed → needs helped freed
       → later + (length (means.view old seat).asked + length (means.view old seat).begun) ≡ steps + (length (means.view asking asker).asked + length (means.view asking asker).begun)
-      → IsWork means needs helps begins route helper old seat steps false helped freed asker later
+      → IsWork means needs helps begins route (at_step helper old seat steps) false (at_step helped freed asker later)
   work_helped route helper old seat steps asking asker later helped freed stalls out helps_ leaves needed counts = record {
     others = leaves_both old seat asking asker freed asker (leaves_own old seat asking asker out.vain.step) (leaves_help asking asker freed out.vain.step.seat_stays leaves);
     works = Helped helper old seat asking asker helped freed false helped freed asker stalls out (helps_, leaves)
@@ -196,7 +199,7 @@ module _ {H T W S : Type 0} (means : Meaning T W S) (needs : H → T → Type 0)
       → route.spec.policy ≡ Stalls → IsOutNow means route old seat asking asker
       → helps helper asking route.spec.producer false left new → LeavesWriters means asking new → needs left new
       → later + (length (means.view old seat).asked + length (means.view old seat).begun) ≡ steps + (length (means.view asking asker).asked + length (means.view asking asker).begun)
-      → IsWork means needs helps begins route helper old seat steps true left new asker later
+      → IsWork means needs helps begins route (at_step helper old seat steps) true (at_step left new asker later)
   work_refused route helper old seat steps asking asker later left new stalls out helps_ leaves needed counts = record {
     others = leaves_both old seat asking asker new asker (leaves_own old seat asking asker out.vain.step) (leaves_help asking asker new out.vain.step.seat_stays leaves);
     works = Refused helper old seat asking asker left new new asker stalls out (helps_, leaves) (silent_none means new asker (leaves.writers_stay asker out.vain.step.seat_stays).0);
@@ -210,7 +213,7 @@ module _ {H T W S : Type 0} (means : Meaning T W S) (needs : H → T → Type 0)
       → ((helper : H) (old new : T) (seat after : W) → IsWriterStep means old seat new after → needs helper old → needs helper new)
       → needs helper old → route.spec.policy ≡ Drops → IsOutNow means route old seat new after
       → later + (length (means.view old seat).asked + length (means.view old seat).begun) ≡ steps + (length (means.view new after).asked + length (means.view new after).begun)
-      → IsWork means needs helps begins route helper old seat steps true helper new after later
+      → IsWork means needs helps begins route (at_step helper old seat steps) true (at_step helper new after later)
   work_lost route helper old seat steps new after later keeps needed drops out counts = record {
     others = leaves_own old seat new after out.vain.step;
     works = Lost helper old seat new after new after drops out (silent_none means new after out.vain.step.seat_stays);
@@ -220,13 +223,14 @@ module _ {H T W S : Type 0} (means : Meaning T W S) (needs : H → T → Type 0)
 
   -- A call, behind which it is noted
 
-  pub asked_of : {begins : Bool} (route : Route) (helper : H) (old : T) (before : W) (steps : ℕ) (stopped : Bool) (noted : List Call) (stalled : Bool) (left : H) (mid : T) (between : W) (later : ℕ) (new : T) (after : W)
+  pub asked_of : {begins : Bool} (writer : Writer) (helper : H) (old : T) (before : W) (steps : ℕ) (stopped : Bool) (noted : List Call) (behind : Writer) (left : H) (mid : T) (between : W) (later : ℕ) (new : T) (after : W)
       → ((helper : H) (old new : T) (seat after : W) → IsWriterStep means old seat new after → needs helper old → needs helper new)
-      → IsWork means needs helps begins route helper old before steps stopped left mid between later
+      → IsWork means needs helps begins writer.route (at_step helper old before steps) stopped (at_step left mid between later)
       → IsQuiet means mid between new after
-      → (means.view new after).calls ≡ (means.view old before).calls ++ noted → stalled ≡ refuses route.spec.policy stopped
-      → IsAsked means needs helps begins route helper old before steps stopped noted stalled left new after later
-  asked_of route helper old before steps stopped noted stalled left mid between later new after keeps one quiet notes stalls =
+      → (means.view new after).calls ≡ (means.view old before).calls ++ noted → is_stalled behind.state ≡ refuses writer.route.spec.policy stopped
+      → IsAsked means needs helps begins stopped noted (moment writer helper old before steps) (moment behind left new after later)
+  asked_of writer helper old before steps stopped noted behind left mid between later new after keeps one quiet notes stalls =
+      let route = writer.route in
       let works = works_last route.spec.policy route (λ asked table answer behind freed. helps asked table route.spec.producer answer behind freed × LeavesWriters means table freed)
       new after one.works quiet in
       let first = quiet_counts mid between new after quiet in let second = one.counts in
@@ -242,35 +246,35 @@ module _ {H T W S : Type 0} (means : Meaning T W S) (needs : H → T → Type 0)
       }
 
   -- the call was noted alone
-  pub asked_alone : {begins : Bool} (route : Route) (helper : H) (old : T) (seat : W) (steps : ℕ) (noted : List Call) (stalled : Bool) (new : T) (after : W) → means.sits old seat
+  pub asked_alone : {begins : Bool} (writer : Writer) (helper : H) (old : T) (seat : W) (steps : ℕ) (noted : List Call) (behind : Writer) (new : T) (after : W) → means.sits old seat
       → ((helper : H) (old new : T) (seat after : W) → IsWriterStep means old seat new after → needs helper old → needs helper new)
       → needs helper old → IsQuiet means old seat new after
-      → (means.view new after).calls ≡ (means.view old seat).calls ++ noted → stalled ≡ refuses route.spec.policy false
-      → IsAsked means needs helps begins route helper old seat steps false noted stalled helper new after steps
-  asked_alone route helper old seat steps noted stalled new after there keeps needed quiet notes stalls =
-      asked_of route helper old seat steps false noted stalled helper old seat steps new after keeps (work_none route helper old seat steps there needed) quiet notes stalls
+      → (means.view new after).calls ≡ (means.view old seat).calls ++ noted → is_stalled behind.state ≡ refuses writer.route.spec.policy false
+      → IsAsked means needs helps begins false noted (moment writer helper old seat steps) (moment behind helper new after steps)
+  asked_alone writer helper old seat steps noted behind new after there keeps needed quiet notes stalls =
+      asked_of writer helper old seat steps false noted behind helper old seat steps new after keeps (work_none writer.route helper old seat steps there needed) quiet notes stalls
 
   -- a writer that drops asks for no help
-  pub asked_drops : {begins : Bool} (route : Route) (helper : H) (old : T) (seat : W) (steps : ℕ) (stopped : Bool) (noted : List Call) (stalled : Bool) (left : H) (new : T) (after : W) (later : ℕ) → means.sits old seat
-      → IsAsked means needs helps begins route helper old seat steps stopped noted stalled left new after later → route.spec.policy ≡ Drops
+  drops_alone : (route : Route) → route.spec.policy ≡ Drops → {begins : Bool} {helper left : H} {old new : T} {seat after : W} {stopped : Bool} → means.sits old seat
+      → Works route.spec.policy (IsSilent means) (IsQuiet means) (GetsChunk means route) (IsVainTry means route begins) (IsOutNow means route)
+      (λ asked table answer behind freed. helps asked table route.spec.producer answer behind freed × LeavesWriters means table freed)
+      helper old seat stopped left new after
       → (left ≡ helper) × IsWriterStep means old seat new after
-  asked_drops route helper old seat steps stopped noted stalled left new after later there asked drops = alone there asked.works
-    where
-      alone : {begins : Bool} {helper left : H} {old new : T} {seat after : W} {stopped : Bool} → means.sits old seat
-          → Works route.spec.policy (IsSilent means) (IsQuiet means) (GetsChunk means route) (IsVainTry means route begins) (IsOutNow means route)
-          (λ asked table answer behind freed. helps asked table route.spec.producer answer behind freed × LeavesWriters means table freed)
-          helper old seat stopped left new after
-          → (left ≡ helper) × IsWriterStep means old seat new after
-      alone there (Done helper old seat new after last) = (refl, last.step)
-      alone there (Silent helper old seat next moved stopped left new after silent more) =
-          let rest = alone silent.quiet.step.seat_stays more in
-          (rest.0, steps_follow means old seat next moved new after silent.quiet.step rest.1)
-      alone there (Gets helper old seat next moved stopped left new after gets more) =
-          let rest = alone gets.step.seat_stays more in
-          (rest.0, steps_follow means old seat next moved new after gets.step rest.1)
-      alone there (Helped helper old seat asking asker helped freed stopped left new after stalls out helps_ more) = absurd (let same : Drops ≡ Stalls = sym drops ∙ stalls in cc)
-      alone there (Refused helper old seat asking asker left kept new after stalls out helps_ last) = absurd (let same : Drops ≡ Stalls = sym drops ∙ stalls in cc)
-      alone there (Lost helper old seat mid between new after lost out last) =
-          (refl, steps_follow means old seat mid between new after out.vain.step last.step)
-      alone there (Tried helper old seat tries kept next moved stopped left new after trying tried more) = absurd (let same : Drops ≡ StallsThenDrops tries = sym drops ∙ trying in cc)
-      alone there (GivesUp helper old seat tries left mid between new after trying tried last) = absurd (let same : Drops ≡ StallsThenDrops tries = sym drops ∙ trying in cc)
+  drops_alone route drops there (Done helper old seat new after last) = (refl, last.step)
+  drops_alone route drops there (Silent helper old seat next moved stopped left new after silent more) =
+      let rest = drops_alone route drops silent.quiet.step.seat_stays more in
+      (rest.0, steps_follow means old seat next moved new after silent.quiet.step rest.1)
+  drops_alone route drops there (Gets helper old seat next moved stopped left new after gets more) =
+      let rest = drops_alone route drops gets.step.seat_stays more in
+      (rest.0, steps_follow means old seat next moved new after gets.step rest.1)
+  drops_alone route drops there (Helped helper old seat asking asker helped freed stopped left new after stalls out helps_ more) = absurd (let same : Drops ≡ Stalls = sym drops ∙ stalls in cc)
+  drops_alone route drops there (Refused helper old seat asking asker left kept new after stalls out helps_ last) = absurd (let same : Drops ≡ Stalls = sym drops ∙ stalls in cc)
+  drops_alone route drops there (Lost helper old seat mid between new after lost out last) =
+      (refl, steps_follow means old seat mid between new after out.vain.step last.step)
+  drops_alone route drops there (Tried helper old seat tries kept next moved stopped left new after trying tried more) = absurd (let same : Drops ≡ StallsThenDrops tries = sym drops ∙ trying in cc)
+  drops_alone route drops there (GivesUp helper old seat tries left mid between new after trying tried last) = absurd (let same : Drops ≡ StallsThenDrops tries = sym drops ∙ trying in cc)
+
+  pub asked_drops : {begins stopped : Bool} {noted : List Call} {before behind : CallMoment H T W} → means.sits before.table before.core.seat
+      → IsAsked means needs helps begins stopped noted before behind → before.core.writer.route.spec.policy ≡ Drops
+      → (behind.helper ≡ before.helper) × IsWriterStep means before.table before.core.seat behind.table behind.core.seat
+  asked_drops {before = before} there asked drops = drops_alone before.core.writer.route drops there asked.works

@@ -11,7 +11,7 @@ use Rattle.cut_steps.specs.RawChains.{offset_behind}
 use Rattle.cut_steps.proofs.Places.{with_bytes_left, with_bytes_right, with_bytes_mid, length_with_bytes}
 use Rattle.cut_steps.specs.Pieces.{ContinuesWithByte}
 use Rattle.trace_writer.specs.declared.fragment.OpenFragment.{OpenFragment}
-use Rattle.trace_writer.specs.Filled.{frames, IsWritten, HasByte}
+use Rattle.trace_writer.specs.Filled.{frames, HasOpenFragment, HasByte}
 
 -- Fragments one behind another
 
@@ -45,11 +45,11 @@ offset_behind-frames (bytes ∷ others) at =
 
 -- The fragment that is written
 
-pub written_offset : (payload : List ℕ) (start at count : ℕ) (done : List (List ℕ)) (now : List ℕ) → IsWritten payload start at count done now
+pub written_offset : (payload : List ℕ) (start at count : ℕ) (done : List (List ℕ)) (now : List ℕ) → HasOpenFragment payload start at count done now
     → offset_behind 4 done ≡ start + 4
 written_offset payload start at count done now w = offset_behind-frames done 4 ∙ omega (arith, w.start_is)
 
-pub written_long : (payload : List ℕ) (start at count : ℕ) (done : List (List ℕ)) (now : List ℕ) (w : IsWritten payload start at count done now)
+pub written_long : (payload : List ℕ) (start at count : ℕ) (done : List (List ℕ)) (now : List ℕ) (w : HasOpenFragment payload start at count done now)
     → length payload ≡ at + length w.rest
 written_long payload start at count done now w =
     ap length w.payload_is
@@ -57,7 +57,7 @@ written_long payload start at count done now w =
     ∙ omega (arith, length-append w.four (now ++ w.rest), length-append now w.rest, w.four_is, w.start_is, w.at_is)
 
 pub written_moved : {payload other : List ℕ} (start begin at end count many : ℕ) (done : List (List ℕ)) (now : List ℕ)
-    → other ≡ payload → begin ≡ start → end ≡ at → many ≡ count → IsWritten payload start at count done now → IsWritten other begin end many done now
+    → other ≡ payload → begin ≡ start → end ≡ at → many ≡ count → HasOpenFragment payload start at count done now → HasOpenFragment other begin end many done now
 written_moved start begin at end count many done now payload_is start_is at_is count_is w = record {
   four = w.four;
   rest = w.rest;
@@ -69,7 +69,7 @@ written_moved start begin at end count many done now payload_is start_is at_is c
 }
 
 -- its size is put in
-pub written_ended : (payload : List ℕ) (start at count : ℕ) (done : List (List ℕ)) (now : List ℕ) (w : IsWritten payload start at count done now)
+pub written_ended : (payload : List ℕ) (start at count : ℕ) (done : List (List ℕ)) (now : List ℕ) (w : HasOpenFragment payload start at count done now)
     → with_bytes payload start (redundant (at - start - 4)) ≡ laid false (done ++ now ∷ []) w.rest
 written_ended payload start at count done now w =
     let size : at - start - 4 ≡ length now = omega (arith, w.at_is) in
@@ -82,7 +82,7 @@ written_ended payload start at count done now w =
     ∙ sym (laid_behind done now w.rest)
 
 -- the drop mark is put in for its size
-pub written_dropped : (payload : List ℕ) (start at count : ℕ) (done : List (List ℕ)) (now : List ℕ) (w : IsWritten payload start at count done now)
+pub written_dropped : (payload : List ℕ) (start at count : ℕ) (done : List (List ℕ)) (now : List ℕ) (w : HasOpenFragment payload start at count done now)
     → with_bytes payload start drop_mark ≡ laid true (done ++ (now ++ w.rest) ∷ []) []
 written_dropped payload start at count done now w =
     ap (λ (n : ℕ). with_bytes payload n drop_mark) w.start_is
@@ -93,8 +93,8 @@ written_dropped payload start at count done now w =
 
 -- four bytes are put into it
 pub written_put : (payload : List ℕ) (start at count : ℕ) (done : List (List ℕ)) (now : List ℕ) (offset : ℕ) (four : List ℕ) → length four ≡ 4
-    → start + 4 ≤ offset → offset + 4 ≤ at → IsWritten payload start at count done now
-    → IsWritten (with_bytes payload offset four) start at count done (with_bytes now (offset - offset_behind 4 done) four)
+    → start + 4 ≤ offset → offset + 4 ≤ at → HasOpenFragment payload start at count done now
+    → HasOpenFragment (with_bytes payload offset four) start at count done (with_bytes now (offset - offset_behind 4 done) four)
 written_put payload start at count done now offset four long behind within w =
     let place : ℕ = offset - offset_behind 4 done in
     let place_is : place ≡ offset - (start + 4) = ap (λ (n : ℕ). offset - n) (written_offset payload start at count done now w) in
@@ -117,7 +117,7 @@ written_put payload start at count done now offset four long behind within w =
     }
 
 -- a fragment that was just started in a chunk without others
-pub written_first : (payload : List ℕ) → 4 ≤ length payload → IsWritten payload 0 4 1 [] []
+pub written_first : (payload : List ℕ) → 4 ≤ length payload → HasOpenFragment payload 0 4 1 [] []
 written_first payload long = record {
   four = take 4 payload;
   rest = drop 4 payload;
@@ -155,7 +155,7 @@ lost_page continues fragments patches = record {
 }
 
 pub full_run : (payload : List ℕ) (start at count size : ℕ) (done : List (List ℕ)) (now : List ℕ) (continues awaits : Bool) (patches : List Patch)
-    (w : IsWritten payload start at count done now) → length payload ≡ size → count ≤ 1023
+    (w : HasOpenFragment payload start at count done now) → length payload ≡ size → count ≤ 1023
     → IsWellFormedPage size (run_page continues awaits (done ++ now ∷ []) w.rest patches)
 full_run payload start at count size done now continues awaits patches w long few =
     let many : length (done ++ now ∷ []) ≡ length done + 1 = length-append done (now ∷ []) in
@@ -171,7 +171,7 @@ full_run payload start at count size done now continues awaits patches w long fe
     }
 
 pub full_lost : (payload : List ℕ) (start at count size : ℕ) (done : List (List ℕ)) (now : List ℕ) (continues : Bool) (patches : List Patch)
-    (w : IsWritten payload start at count done now) → length payload ≡ size → count ≤ 1023
+    (w : HasOpenFragment payload start at count done now) → length payload ≡ size → count ≤ 1023
     → IsWellFormedPage size (lost_page continues (done ++ (now ++ w.rest) ∷ []) patches)
 full_lost payload start at count size done now continues patches w long few =
     let many : length (done ++ (now ++ w.rest) ∷ []) ≡ length done + 1 = length-append done ((now ++ w.rest) ∷ []) in
@@ -187,7 +187,7 @@ full_lost payload start at count size done now continues patches w long few =
 
 -- a fragment that continues a packet has a byte
 pub continues_with_byte : (fragment : OpenFragment) (payload : List ℕ) (done : List (List ℕ)) (now : List ℕ)
-    → IsWritten payload fragment.start fragment.at fragment.count done now → HasByte fragment → ContinuesWithByte fragment.continues done now
+    → HasOpenFragment payload fragment.start fragment.at fragment.count done now → HasByte fragment → ContinuesWithByte fragment.continues done now
 continues_with_byte fragment payload done now written byte goes first =
     let start : fragment.start ≡ 0 = written.start_is ∙ ap (λ (before : List (List ℕ)). length (frames before)) first in
     omega (arith, byte goes start, written.at_is, start)

@@ -30,7 +30,7 @@ use Rattle.trace_writer.specs.declared.state.State.{State}
 use Rattle.trace_writer.specs.declared.state.State.TheVariants.{Writing, Dropping}
 use Rattle.trace_writer.specs.declared.state.Writer.{Writer}
 use Rattle.trace_writer.specs.Site.{Site, site_of}
-use Rattle.trace_writer.specs.Filled.{frames, IsWritten, HasByte}
+use Rattle.trace_writer.specs.Filled.{frames, HasOpenFragment, HasByte}
 use Rattle.trace_writer.specs.Fragment.{AnswersClose, Closes}
 use Rattle.trace_writer.specs.Ids.{HasIds}
 use Rattle.trace_writer.specs.States.{InFragment}
@@ -115,7 +115,7 @@ inside_ended site packet older view before after fragment next level outer other
           position = put.same.position ∙ i.position;
           sized = ap (λ (n : ℕ). (spot site.setup n).payload_size) put.same.chunk ∙ i.sized;
           whole = put.same.len ∙ i.whole;
-          written = subst (λ (xs : List ℕ). IsWritten next.held.body.payload.items next.start next.at next.count i.done xs) now_is
+          written = subst (λ (xs : List ℕ). HasOpenFragment next.held.body.payload.items next.start next.at next.count i.done xs) now_is
               (written_moved fragment.start next.start fragment.at next.at fragment.count next.count i.done (with_bytes i.now (offset - offset_behind 4 i.done) bytes)
               put.payload put.same.start closed.at put.same.count
               (written_put fragment.held.body.payload.items fragment.start fragment.at fragment.count i.done i.now offset bytes four

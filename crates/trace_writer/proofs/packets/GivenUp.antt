@@ -39,7 +39,7 @@ use Rattle.trace_writer.specs.declared.fragment.OpenFragment.{OpenFragment}
 use Rattle.trace_writer.specs.Fragment.{IsSameChunk, IsPutInto, AnswersClose, Closes}
 use Rattle.trace_writer.specs.Headers.{completed_chunk, flags_value, held_head}
 use Rattle.trace_writer.specs.Site.{Site}
-use Rattle.trace_writer.specs.Filled.{frames, IsWritten, ShowsPages}
+use Rattle.trace_writer.specs.Filled.{frames, HasOpenFragment, ShowsPages}
 use Rattle.trace_writer.specs.Drafted.{IsFit}
 use Rattle.trace_base.specs.declared.policy.WriterPolicy.{WriterPolicy}
 use Rattle.trace_base.specs.declared.policy.WriterPolicy.TheVariants.{Drops, Stalls, StallsThenDrops}
@@ -55,7 +55,7 @@ use Rattle.trace_writer.proofs.packets.InPlace.{same_both}
 -- The packet, of which this text was to be written, is being given up in the fragment.
 pub record GivesIn (site : Site) (packet : Packet) (older : List Packet) (pages : List Page) (done : List (List ℕ)) (pending : Pending) (fragment : OpenFragment) (text : Text) : Type 0 where
   pub now : List ℕ
-  pub written : IsWritten fragment.held.body.payload.items fragment.start fragment.at fragment.count done now
+  pub written : HasOpenFragment fragment.held.body.payload.items fragment.start fragment.at fragment.count done now
   pub giving : GivesUp site.size packet older pages fragment.continues done now pending.unsent (reverse pending.holes) text
 
 -- So it is for each packet that was written in it, whatever was to be written, once some of its holes are closed.
@@ -96,7 +96,7 @@ gives_here site packet older pages done old new fragment next text offset bytes 
     let put_in : List ℕ = with_bytes g.now (hole.offset - offset_behind 4 done) (redundant 0) in
     let closed : GivesUp site.size packet older pages fragment.continues done put_in old.unsent rest text =
     gives_up_here site.size packet older pages fragment.continues done g.now old.unsent hole rest text held giving in
-    let written : IsWritten (with_bytes fragment.held.body.payload.items hole.offset (redundant 0)) fragment.start fragment.at fragment.count done put_in =
+    let written : HasOpenFragment (with_bytes fragment.held.body.payload.items hole.offset (redundant 0)) fragment.start fragment.at fragment.count done put_in =
     written_put fragment.held.body.payload.items fragment.start fragment.at fragment.count done g.now hole.offset (redundant 0) (length-redundant 0)
     (omega (arith, stands.0, begins)) (omega (arith, stands.1, begins, g.written.at_is)) g.written in
     let payload : next.held.body.payload.items ≡ with_bytes fragment.held.body.payload.items hole.offset (redundant 0) =
@@ -228,7 +228,7 @@ pub given_idle : (site : Site) (packet next : Packet) (older : List Packet) (old
 given_idle site packet next older old new before after first text kept_is flush given filled comes w giving e =
     let g : GivesIn site packet older w.pages w.done e.pending e.last text = e.closes.gives packet older text w giving in
     let same : IsSameChunk first e.last = e.closes.same in
-    let written : IsWritten e.last.held.body.payload.items first.start first.at first.count w.done g.now =
+    let written : HasOpenFragment e.last.held.body.payload.items first.start first.at first.count w.done g.now =
     written_moved e.last.start first.start e.last.at first.at e.last.count first.count w.done g.now refl (sym same.start) (sym e.closes.at) (sym same.count) g.written in
     let long : length e.last.held.body.payload.items ≡ site.size = let whole = e.last.held.body.payload.ok.0 in omega (arith, same.len, w.whole, whole) in
     let few : first.count ≤ 1023 = first.few in

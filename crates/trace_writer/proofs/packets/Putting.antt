@@ -17,7 +17,7 @@ use Rattle.cut_steps.proofs.WritingSteps.{writing_more, with_more-both, with_mor
 use Rattle.trace_writer.specs.declared.fragment.OpenFragment.{OpenFragment}
 use Rattle.trace_writer.specs.Drafted.{IsDrafted}
 use Rattle.trace_writer.specs.Site.{Site}
-use Rattle.trace_writer.specs.Filled.{frames, IsWritten, HasByte}
+use Rattle.trace_writer.specs.Filled.{frames, HasOpenFragment, HasByte}
 use Rattle.trace_writer.specs.Fragment.{IsPutInto}
 use Rattle.trace_writer.specs.Ids.{HasIds}
 use Rattle.trace_writer.specs.States.{InFragment}
@@ -27,8 +27,8 @@ use Rattle.trace_writer.proofs.holding.Payloads.{written_moved}
 -- One fragment
 
 -- bytes stand behind those of the fragment
-pub written_more : (payload : List ℕ) (start at count : ℕ) (done : List (List ℕ)) (now bytes : List ℕ) → IsWritten payload start at count done now
-    → IsWritten (with_bytes payload at bytes) start (at + length bytes) count done (now ++ bytes)
+pub written_more : (payload : List ℕ) (start at count : ℕ) (done : List (List ℕ)) (now bytes : List ℕ) → HasOpenFragment payload start at count done now
+    → HasOpenFragment (with_bytes payload at bytes) start (at + length bytes) count done (now ++ bytes)
 written_more payload start at count done now bytes w =
     let front : List ℕ = (frames done ++ w.four) ++ now in
     let behind : List ℕ = drop (0 + length bytes) w.rest in

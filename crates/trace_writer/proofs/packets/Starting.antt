@@ -40,12 +40,13 @@ use Rattle.trace_writer.specs.declared.state.Writer.{Writer}
 use Rattle.trace_writer.specs.Empty.{is_stalled}
 use Rattle.trace_writer.specs.Headers.{held_head}
 use Rattle.trace_writer.specs.Site.{Site, IsRoute, site_of}
-use Rattle.trace_writer.specs.Filled.{frames, IsFilled, IsWritten, ShowsPages}
+use Rattle.trace_writer.specs.Filled.{frames, IsFilled, HasOpenFragment, ShowsPages}
 use Rattle.trace_writer.specs.Drafted.{CountsNext}
 use Rattle.trace_writer.specs.States.{InFragment, IsIdle, IsBehind, has_room}
 use Rattle.trace_writer.specs.Claims.{Wins}
 use Rattle.trace_writer.specs.Asked.{IsAsked, begun_as, stops_with}
 use Rattle.trace_writer.specs.Helping.{IsWork}
+use Rattle.trace_writer.specs.Moments.{at_step, moment}
 use Rattle.trace_writer.specs.OwnSteps.{IsQuiet}
 use Rattle.trace_writer.specs.Placing.{IsStarted, IsRoomy, IsPlace, BeginsAt, is_behind, is_roomy}
 use Rattle.trace_writer.proofs.stops.Idling.{completed_idle, behind_content}
@@ -57,7 +58,7 @@ use Rattle.trace_writer.proofs.claims.Working.{asked_of}
 
 -- four bytes are set aside for the size of a fragment behind these
 pub started_written : (payload : List ℕ) (at count : ℕ) (done : List (List ℕ)) → at + 4 ≤ length payload → IsFilled payload at count done
-    → IsWritten payload at (at + 4) (count + 1) done []
+    → HasOpenFragment payload at (at + 4) (count + 1) done []
 started_written payload at count done room filled =
     let long : length payload ≡ length (frames done) + length filled.rest = ap length filled.payload_is ∙ length-append (frames done) filled.rest in
     record {
@@ -85,7 +86,7 @@ started_inside site account packet view new pending chunk fragment pages complet
     let here : new.begun ≡ completed ++ Held chunk.held.chunk counts.draft ∷ [] =
     same ∙ redrafted_here view counted completed [] chunk.held.chunk chunk.held.position draft counts.draft begun (position ∙ sym long) counts.view in
     let payload_long : length chunk.held.body.payload.items ≡ vec_len chunk.held.body.payload = sym chunk.held.body.payload.ok.0 in
-    let written : IsWritten chunk.held.body.payload.items chunk.at (chunk.at + 4) (chunk.count + 1) done [] =
+    let written : HasOpenFragment chunk.held.body.payload.items chunk.at (chunk.at + 4) (chunk.count + 1) done [] =
     started_written chunk.held.body.payload.items chunk.at chunk.count done (omega (arith, room, payload_long)) filled in
     record {
       pages = pages;
@@ -106,10 +107,10 @@ started_inside site account packet view new pending chunk fragment pages complet
       position = ap (λ (h : HeldToken). h.position) started.held ∙ position;
       sized = ap (λ (h : HeldToken). (spot site.setup h.chunk).payload_size) started.held ∙ sized;
       whole = ap (λ (h : HeldToken). vec_len h.body.payload) started.held ∙ whole;
-      written = subst (λ (h : HeldToken). IsWritten h.body.payload.items fragment.start fragment.at fragment.count done []) (sym started.held)
-          (subst (λ (n : ℕ). IsWritten chunk.held.body.payload.items n fragment.at fragment.count done []) (sym started.start)
-          (subst (λ (n : ℕ). IsWritten chunk.held.body.payload.items chunk.at n fragment.count done []) (sym started.at)
-          (subst (λ (n : ℕ). IsWritten chunk.held.body.payload.items chunk.at (chunk.at + 4) n done []) (sym started.count) written)));
+      written = subst (λ (h : HeldToken). HasOpenFragment h.body.payload.items fragment.start fragment.at fragment.count done []) (sym started.held)
+          (subst (λ (n : ℕ). HasOpenFragment chunk.held.body.payload.items n fragment.at fragment.count done []) (sym started.start)
+          (subst (λ (n : ℕ). HasOpenFragment chunk.held.body.payload.items chunk.at n fragment.count done []) (sym started.at)
+          (subst (λ (n : ℕ). HasOpenFragment chunk.held.body.payload.items chunk.at (chunk.at + 4) n done []) (sym started.count) written)));
       few = subst (λ (xs : List Hole). length xs ≤ MAX_OPEN_HOLES) (sym holes) (omega arith);
       room = subst (λ (xs : List Hole). length pending.unsent + holes_outside fragment.held.position xs ≤ MAX_OPEN_HOLES) (sym holes) (omega (arith, few));
       writing = subst (λ (b : Bool). IsWriting site.size packet account.packets pages b done [] pending.unsent (reverse pending.holes) []) (sym started.continues)
@@ -232,7 +233,7 @@ pub record HasFound {H T W S : Type 0} (means : Meaning T W S) (needs : H → T 
   pub route_is : writer.route ≡ before.route
   pub calls : (means.view new after).calls ≡ (means.view old seat).calls
   pub at : IsPlace (site_of (means.setup old) (means.place seat) before.route) (account_of (means.view old seat).calls) (means.view new after) writer.pending found
-  pub work : IsWork means needs helps true before.route helper old seat steps (not (is_behind found)) left new after later
+  pub work : IsWork means needs helps true before.route (at_step helper old seat steps) (not (is_behind found)) (at_step left new after later)
 
 module _ {H T W S : Type 0} {means : Meaning T W S} {needs : H → T → Type 0} {helps : H → T → ℕ → Bool → H → T → Type 0}
     {before : Writer} {helper : H} {old : T} {seat : W} {steps : ℕ} where
@@ -260,17 +261,17 @@ module _ {H T W S : Type 0} {means : Meaning T W S} {needs : H → T → Type 0}
         (subst (λ (noted : List Call). IsPlace (site_of (means.setup old) (means.place seat) before.route) (account_of noted) (means.view mid between) writer.pending found) (sym has.calls) has.at)))
 
     -- What became of the packet that was begun there.
-    pub found_asked : (new : T) (after : W) (state : State) (result : Result BegunPacket CallFault)
+    pub found_asked : (new : T) (after : W) (behind : Writer) (result : Result BegunPacket CallFault)
         → ((helper : H) (old new : T) (seat after : W) → IsWriterStep means old seat new after → needs helper old → needs helper new)
         → HasFound means needs helps before helper old seat steps writer left mid between later found
-        → BeginsAt writer.route.spec.policy found result (means.view mid between).calls (means.view new after).calls state
+        → BeginsAt writer.route.spec.policy found result (means.view mid between).calls (means.view new after).calls behind.state
         → IsQuiet means mid between new after
-        → IsAsked means needs helps true before.route helper old seat steps (stops_with result) (begun_as (stops_with result) before.route.spec.policy)
-        (is_stalled state) left new after later
-    found_asked new after state result keeps has at quiet =
-        let begins = subst (λ (r : Route). BeginsAt r.spec.policy found result (means.view mid between).calls (means.view new after).calls state) has.route_is at in
-        subst (λ (stopped : Bool). IsAsked means needs helps true before.route helper old seat steps stopped (begun_as stopped before.route.spec.policy)
-        (is_stalled state) left new after later) (sym begins.stops)
-        (asked_of means needs helps before.route helper old seat steps (not (is_behind found)) (begun_as (not (is_behind found)) before.route.spec.policy)
-        (is_stalled state) left mid between later new after keeps has.work quiet
+        → IsAsked means needs helps true (stops_with result) (begun_as (stops_with result) before.route.spec.policy)
+        (moment before helper old seat steps) (moment behind left new after later)
+    found_asked new after behind result keeps has at quiet =
+        let begins = subst (λ (r : Route). BeginsAt r.spec.policy found result (means.view mid between).calls (means.view new after).calls behind.state) has.route_is at in
+        subst (λ (stopped : Bool). IsAsked means needs helps true stopped (begun_as stopped before.route.spec.policy)
+        (moment before helper old seat steps) (moment behind left new after later)) (sym begins.stops)
+        (asked_of means needs helps before helper old seat steps (not (is_behind found)) (begun_as (not (is_behind found)) before.route.spec.policy)
+        behind left mid between later new after keeps has.work quiet
         (begins.calls ∙ ap (λ (calls : List Call). calls ++ begun_as (not (is_behind found)) before.route.spec.policy) has.calls) begins.stalls)

@@ -9,8 +9,9 @@ use Rattle.chunk_plain.specs.World.{World}
 use Rattle.trace_writer.specs.declared.fault.CallFault.{CallFault}
 use Rattle.trace_writer.specs.declared.state.Writer.{Writer}
 use Rattle.trace_writer.specs.Agreement.{Agrees}
-use Rattle.trace_writer.specs.AtWork.{IsAtWork, IsReady, NotesUnlessStalled, moment}
+use Rattle.trace_writer.specs.AtWork.{IsAtWork, IsReady, NotesUnlessStalled}
 use Rattle.trace_writer.specs.Empty.{is_stalled}
+use Rattle.trace_writer.specs.Moments.{moment}
 use Rattle.trace_writer.specs.OwnSteps.{IsQuiet}
 use Rattle.trace_writer.specs.Written.{IsWritten}
 use Rattle.trace_writer.proofs.claims.QuietRows.{quiet_none}
@@ -34,7 +35,7 @@ module _ {H T W S A : Type 0} (means : Meaning T W S) (needs : H → T → Type 
     answers = λ _. goes;
     done = λ _. (
       false,
-      asked_alone means needs helps old.route helper table seat steps (call ∷ []) (is_stalled new.state) behind after there keeps needed
+      asked_alone means needs helps old helper table seat steps (call ∷ []) new behind after there keeps needed
           (quiet_noted means table seat behind after by call step is tells) (ap (λ (v : WriterView). v.calls) is)
           (goes ∙ sym (refuses_none old.route.spec.policy)),
       λ stops. absurd (true≢false (sym stops)),

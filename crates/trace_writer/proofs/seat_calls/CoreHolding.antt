@@ -1,7 +1,7 @@
 -- Which chunk a writer holds, by the view of its seat, and the calls by which it asks for none.
 use Rattle.std.proofs.Common.{◌≡◌, ◌∙◌, ℕ, ◌<◌, ◌||◌, Bool, true, false, not, List, [], ◌∷◌, ◌++◌, Option, refl, sym, ap, subst, true≢false}
 use Rattle.std.proofs.Math.Bool.{or-false, or-true}
-use Rattle.trace_model.specs.Calls.{Ended, Finished, Flushed}
+use Rattle.trace_model.specs.Calls.{Call, Ended, Finished, Flushed}
 use Rattle.trace_model.specs.Packets.{Packet, Account, account_of, packets_of, on_newest, finished_packet, newest_is_lost, is_lost, is_writing}
 use Rattle.commit_body.specs.Pending.{Pending}
 use Rattle.chunk_plain.specs.Views.{WriterView}
@@ -13,6 +13,8 @@ use Rattle.trace_writer.specs.declared.state.State.TheVariants.{Idle, Between, W
 use Rattle.trace_writer.specs.declared.state.Writer.{Writer}
 use Rattle.trace_writer.specs.declared.writer.WriterCore.{WriterCore}
 use Rattle.trace_writer.specs.Agreement.{Agrees, StateAgrees, is_inside}
+use Rattle.trace_writer.specs.AtWork.{NotesUnlessStalled}
+use Rattle.trace_writer.specs.Calling.{Stands, NotesCall}
 use Rattle.trace_writer.specs.Core.{CoreAgrees, in_packet, open_depth, is_stalled, holds_newest}
 use Rattle.trace_writer.specs.Empty.{is_empty, is_stalled as is_stalled_state}
 use Rattle.trace_writer.specs.OwnSteps.{IsQuiet}
@@ -22,6 +24,7 @@ use Rattle.trace_writer.proofs.accounts.Agreeing.{not_lost}
 use Rattle.trace_writer.proofs.seat_calls.CoreCalls.{ended_in, deep_writing, finished_out}
 use Rattle.trace_writer.proofs.seat_calls.CoreLemmas.{begun_is_writing}
 use Rattle.trace_writer.proofs.claims.KeepingClaims.{claims_quiet}
+use Rattle.trace_writer.proofs.stops.Stopping.{either_way}
 use Rattle.trace_writer.proofs.accounts.Possible.{ended_possible, finished_possible, flushed_possible, ended_loses, finished_loses, flushed_loses}
 
 -- inside a packet the writer holds a chunk where the packet isn't lost
@@ -65,13 +68,31 @@ flushed_holds account = by account.packets
     by [] = refl
     by (packet ∷ older) = ap not (or-true (is_lost packet))
 
+-- a writer and its seat that are the same ones
+pub core_stays : {S : Type 0} (core after : WriterCore S) → after.writer ≡ core.writer → after.seat ≡ core.seat → after ≡ core
+core_stays {S} core after writer seat =
+    ap (λ writer. let one : WriterCore S = record { seat = after.seat; writer = writer } in one) writer
+    ∙ ap (λ seat. let one : WriterCore S = record { seat = seat; writer = core.writer } in one) seat
+
 module _ {T W S : Type 0} (means : Meaning T W S) where
-  -- a stalled writer's call leaves all
-  pub core_still : (old : T) (core : WriterCore W) (new : T) (after : WriterCore W) → CoreAgrees (means.setup old) (means.place core.seat) (means.view old core.seat) core → after ≡ core → new ≡ old
-      → CoreAgrees (means.setup old) (means.place core.seat) (means.view new after.seat) after
-  core_still old core new after ok after_is new_is =
-      subst (λ (t : T). CoreAgrees (means.setup old) (means.place core.seat) (means.view t after.seat) after) (sym new_is)
-      (subst (λ (c : WriterCore W). CoreAgrees (means.setup old) (means.place core.seat) (means.view old c.seat) c) (sym after_is) ok)
+  -- a call that asks for no chunk: where the writer has stalled it leaves all
+  pub core_notes : {call : Call} {table : T} {core : WriterCore W} {left : T} {after : WriterCore W} → Stands means table core
+      → NotesUnlessStalled means call table core.seat core.writer left after.seat after.writer
+      → (is_stalled core ≡ false → CoreAgrees (means.setup table) (means.place core.seat) (means.view left after.seat) after)
+      → NotesCall means call table core left after
+  core_notes {call} {table} {core} {left} {after} stands notes agrees = record {
+    agrees = either_way (is_stalled core) agrees (λ halted. let same = stays halted in
+        subst (λ (t : T). CoreAgrees (means.setup table) (means.place core.seat) (means.view t after.seat) after) (sym same.1)
+        (subst (λ (c : WriterCore W). CoreAgrees (means.setup table) (means.place core.seat) (means.view table c.seat) c) (sym same.0) stands.agrees));
+    stalled = stays;
+    goes = notes.goes;
+    notes = notes.calls;
+    route = notes.route_stays;
+    quiet = notes.quiet;
+  }
+    where
+      stays : is_stalled core ≡ true → (after ≡ core) × (left ≡ table)
+      stays halted = let is = notes.stays halted in (core_stays core after is.0 is.2, is.1)
 
   pub core_ended : (old : T) (core : WriterCore W) (new : T) (after : WriterCore W) → CoreAgrees (means.setup old) (means.place core.seat) (means.view old core.seat) core
       → 0 < open_depth (means.view old core.seat) → IsQuiet means old core.seat new after.seat

@@ -65,7 +65,7 @@ returns g c =
         route_stays = search rules;
         stays = search rules;
         answers = λ goes. c.begin_at.ensures.begins.answers;
-        done = λ goes. found_asked c.begin_at.new.table c.begin_at.new.seat c.begin_at.new.writer.state c.begin_at.result g.met.H.HelperOn.needs_stay found
+        done = λ goes. found_asked c.begin_at.new.table c.begin_at.new.seat c.begin_at.new.writer c.begin_at.result g.met.H.HelperOn.needs_stay found
             c.begin_at.ensures.begins c.begin_at.ensures.quiet;
       };
       asked = λ here. c.begin_at.ensures.quiet.asked ∙ elim c.match-take_state.branch [

@@ -28,7 +28,6 @@ returns-in-Writing-clause-written g c =
     (λ (packet : Packet) some m. measured_more c.in-Some.packet c.add_field.new.self packet bytes count long
     (c.add_field.ensures.len ∙ ap (λ (n : ℕ). c.in-Some.packet.len + (length c.args.head.now + n * length c.args.text.now)) c.from.ensures) c.add_field.ensures.starts some m)
     (subst (λ (o : Option OpenPacket). len_of o + count ≤ 1048576) c.in-Some.is c.requires.fits) c.requires.call c.put_field-flow.ensures.flow c.go_on.ensures.goes in
-    let route = c.args.writer.now.route in
     let stopped = is_stopped c.put_field-flow.result in
     let noted = notes_behind (g.W.Words.means.setup c.args.table.now) (g.W.Words.means.place c.args.seat.now) (g.W.Words.means.view c.args.table.now c.args.seat.now)
     (g.W.Words.means.view c.put_field-flow.new.table c.put_field-flow.new.seat) (g.W.Words.means.view c.go_on.new.table c.go_on.new.seat)
@@ -44,7 +43,7 @@ returns-in-Writing-clause-written g c =
       done = λ _. (
         stopped,
         asked_of g.W.Words.means g.H.HelperOn.needs g.H.HelperOn.helps
-            route c.args.help.now c.args.table.now c.args.seat.now c.args.steps.now stopped (written_as stopped route.spec.policy (call_of c.args.call)) (is_stalled c.go_on.new.writer.state)
+            c.args.writer.now c.args.help.now c.args.table.now c.args.seat.now c.args.steps.now stopped (written_as stopped c.args.writer.now.route.spec.policy (call_of c.args.call)) c.go_on.new.writer
             c.put_field-flow.new.help c.put_field-flow.new.table c.put_field-flow.new.seat c.put_field-flow.new.steps c.go_on.new.table c.go_on.new.seat g.met.H.HelperOn.needs_stay
             c.put_field-flow.ensures.work c.go_on.ensures.quiet
             noted.0 noted.1,

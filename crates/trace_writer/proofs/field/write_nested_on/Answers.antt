@@ -36,7 +36,6 @@ returns-in-Writing-clause-written g c =
     (λ (packet : Packet) some m. measured_nested c.in-Some.packet c.add_nested.new.self packet tag (length tag) refl c.add_nested.ensures.len c.add_nested.ensures.starts some m)
     (subst (λ (o : Option OpenPacket). len_of o + (length tag + 4) ≤ 1048576) c.in-Some.is
     (subst (λ (t : List ℕ). len_of c.args.writer.now.packet + (length t + 4) ≤ 1048576) (sym (c.as_slice-tag.ensures ∙ c.head_nested-head.ensures)) c.requires.fits)) (noted_tag c.args.field tag (c.as_slice-tag.ensures ∙ c.head_nested-head.ensures)) c.put_nested-flow.ensures.flow c.go_on.ensures.goes in
-    let route = c.args.writer.now.route in
     let stopped = is_stopped c.put_nested-flow.result in
     let noted = notes_behind (g.W.Words.means.setup c.args.table.now) (g.W.Words.means.place c.args.seat.now) (g.W.Words.means.view c.args.table.now c.args.seat.now)
     (g.W.Words.means.view c.put_nested-flow.new.table c.put_nested-flow.new.seat) (g.W.Words.means.view c.go_on.new.table c.go_on.new.seat)
@@ -52,7 +51,7 @@ returns-in-Writing-clause-written g c =
       done = λ _. (
         stopped,
         asked_of g.W.Words.means g.H.HelperOn.needs g.H.HelperOn.helps
-            route c.args.help.now c.args.table.now c.args.seat.now c.args.steps.now stopped (written_as stopped route.spec.policy (call.Nested c.args.field)) (is_stalled c.go_on.new.writer.state)
+            c.args.writer.now c.args.help.now c.args.table.now c.args.seat.now c.args.steps.now stopped (written_as stopped c.args.writer.now.route.spec.policy (call.Nested c.args.field)) c.go_on.new.writer
             c.put_nested-flow.new.help c.put_nested-flow.new.table c.put_nested-flow.new.seat c.put_nested-flow.new.steps c.go_on.new.table c.go_on.new.seat g.met.H.HelperOn.needs_stay
             c.put_nested-flow.ensures.work c.go_on.ensures.quiet
             noted.0 noted.1,

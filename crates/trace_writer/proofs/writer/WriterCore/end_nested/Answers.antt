@@ -4,8 +4,7 @@ use Rattle.trace_writer.specs.Core.{in_packet}
 use Rattle.trace_writer.specs.Empty.{is_stalled}
 use Rattle.trace_writer.proofs.seat_calls.CoreCalls.{ended_in, deep_writing}
 use Rattle.trace_writer.specs.declared.writer.WriterCore.{WriterCore}
-use Rattle.trace_writer.proofs.seat_calls.CoreHolding.{core_ended, core_still}
-use Rattle.trace_writer.proofs.seat_calls.CoreDone.{core_stays}
+use Rattle.trace_writer.proofs.seat_calls.CoreHolding.{core_ended, core_notes}
 use Rattle.trace_writer.proofs.stops.Stopping.{either_way}
 use Rattle.trace_writer.proofs.writer.WriterCore.end_nested.Goals as goal
 
@@ -23,13 +22,9 @@ pub returns-clause-depth_falls : goal.returns-clause-depth_falls
 returns-clause-depth_falls g c = λ goes.
     (ended_in (g.W.Words.means.view c.args.table.now c.args.self.now.seat) (g.W.Words.means.view c.end_message.new.table c.end_message.new.seat) (c.end_message.ensures.notes.calls goes) c.requires.depth).1
 
-pub returns-clause-agrees : goal.returns-clause-agrees
-returns-clause-agrees g c =
-    let core = c.args.self.now in let after : WriterCore _ = (record { seat = c.end_message.new.seat; writer = c.end_message.new.writer }) in
-    either_way (is_stalled core.writer.state)
-    (λ goes. core_ended g.W.Words.means
-    c.args.table.now core c.end_message.new.table after c.requires.agrees c.requires.depth c.end_message.ensures.notes.quiet c.end_message.ensures.notes.agrees (c.end_message.ensures.notes.calls goes))
-    (λ stalled. let is = c.end_message.ensures.notes.stays stalled in
-    core_still g.W.Words.means
-    c.args.table.now core c.end_message.new.table after c.requires.agrees
-    (core_stays core after is.0 is.2) is.1)
+pub returns-clause-call : goal.returns-clause-call
+returns-clause-call g c =
+    let after : WriterCore _ = record { seat = c.end_message.new.seat; writer = c.end_message.new.writer } in let notes = c.end_message.ensures.notes in
+    core_notes g.W.Words.means c.requires.stands notes
+    (λ goes. core_ended g.W.Words.means c.args.table.now c.args.self.now c.end_message.new.table after c.requires.stands.agrees c.requires.depth
+    notes.quiet notes.agrees (notes.calls goes))
