@@ -1,30 +1,28 @@
 -- What a call of a writer over a lent table says of the writer of a thread.
-use Rattle.std.proofs.Common.{◌≡◌, ◌∙◌, ℕ, ◌+◌, Bool, true, false, Option, Some, None, Result, List, [], ◌++◌, MatchResult, subst, sym, refl, ap, append-nil}
+use Rattle.std.proofs.Common.{◌≡◌, ◌∙◌, ℕ, ◌+◌, Bool, true, false, Option, Some, None, Result, List, [], ◌∷◌, ◌++◌, subst, sym, refl, ap, append-nil}
 use Rattle.atomic_table.specs.Seated.{TableId}
-use Rattle.trace_base.specs.declared.policy.WriterPolicy.TheVariants.{Drops}
 use Rattle.trace_model.specs.Calls.{Call}
 use Rattle.chunk_plain.specs.Letters.{last_flush}
-use Rattle.chunk_plain.specs.Meaning.{IsWriterStep}
 use Rattle.chunk_plain.specs.Views.{At, BegunChunk, Completed, Letters, Reply, WriterView}
 use Rattle.chunk_words.specs.declared.shared.Shared.{Shared}
 use Rattle.chunk_words.specs.declared.seats.WriterSeat.{WriterSeat}
 use Rattle.chunk_words.specs.contracts.shared.SharedWords.TheImpl.{ghosts as shared}
 use Rattle.chunk_words.specs.Sits.{setup_in, known_by}
 use Rattle.trace_writer.specs.declared.fault.CallFault.{CallFault}
-use Rattle.trace_writer.specs.declared.fault.CallFault.TheVariants as call_fault
 use Rattle.trace_writer.specs.declared.route.Route.{Route}
 use Rattle.trace_writer.specs.declared.writer.WriterCore.{WriterCore}
 use Rattle.trace_writer.specs.Answered.{KeepsCompleted, IsAnsweredCut}
-use Rattle.trace_writer.specs.Asked.{IsAsked, LeavesAll}
-use Rattle.trace_writer.specs.Core.{CoreAgrees, is_stalled, route_of, refusal_of}
-use Rattle.trace_writer.specs.Helping.{LeavesOthers}
-use Rattle.trace_writer.specs.OwnSteps.{KeepsChunks, IsQuiet}
+use Rattle.trace_writer.specs.Asked.{noted_as}
+use Rattle.trace_writer.specs.Calling.{MakesCall, NotesCall, fault_at}
+use Rattle.trace_writer.specs.Core.{CoreAgrees, is_stalled, route_of}
+use Rattle.trace_writer.specs.Moments.{CallMoment, at_call}
+use Rattle.trace_writer.specs.OwnSteps.{KeepsChunks}
 use Rattle.trace_writer.proofs.holding.Answering.{quiet_keeps, works_keep_completed, cut_stays}
 use Rattle.thread_writer.specs.declared.helper.Asks.{Asks}
 use Rattle.thread_writer.specs.declared.writer.TraceWriter.{TraceWriter}
 use Rattle.chunk_words.specs.Named.{identity_of}
 use Rattle.thread_writer.specs.Asking.{MayAsk, IsHelp}
-use Rattle.thread_writer.specs.Writing.{core_of, view_in, AnswersAreCuts, Writes, IsCall, IsQuietCall}
+use Rattle.thread_writer.specs.Writing.{core_of, view_in, AnswersAreCuts, Writes, IsCall, IsQuietCall, caller}
 use Rattle.thread_writer.specs.Standing.{step_stays}
 use Rattle.thread_writer.proofs.Identity.{works_stay, sits_back}
 
@@ -75,98 +73,69 @@ either : {P : Type 0} (asked : Option CallFault) → ((fault : CallFault) → as
 either None refused done = done refl
 either (Some fault) refused done = refused fault refl
 
-module _ {A H : Type 0} (helps : H → ℕ → Bool → H → Type 0) (of_table : H → TableId → Type 0) (table behind : Shared) (old new : WriterCore WriterSeat) (help left : Asks H) (steps later : ℕ)
-    (answer : Result A CallFault) (reason : Option CallFault) where
-  -- what a call says of a writer that refuses it, and of one that does it
-  abbrev pub Refuses : Type 0
-  Refuses = (fault : CallFault) → refusal_of old reason ≡ Some fault
-      → LeavesAll fault answer old new table behind help left steps later
-
-  abbrev pub Answers : Type 0
-  Answers = refusal_of old reason ≡ None
-      → MatchResult answer (λ _. is_stalled new ≡ false) (λ fault. (fault ≡ call_fault.Stalled) × (is_stalled new ≡ true))
-
-  abbrev pub DoesIt : Bool → Bool → List Call → Type 0
-  DoesIt begins stopped noted = IsAsked shared.means (MayAsk of_table) (IsHelp helps) begins (route_of old) help table old.seat steps stopped noted
-      (is_stalled new) left behind new.seat later
-
-  -- the table behind it is the lent one
-  pub same_table : {begins : Bool} (noted : Bool → List Call) → Refuses → (refusal_of old reason ≡ None → (stopped : Bool) × DoesIt begins stopped (noted stopped))
-      → identity_of behind.table.now ≡ identity_of table.table.now
-  same_table noted refused done = either (refusal_of old reason)
-      (λ fault is. ap (λ (s : Shared). identity_of s.table.now) (refused fault is).table_stays)
-      (λ is. works_stay helps (route_of old) (done is).1.works)
+module _ {A H : Type 0} (helps : H → ℕ → Bool → H → Type 0) (of_table : H → TableId → Type 0) {call : Call} {stopped : Bool}
+    {before after : CallMoment (Asks H) Shared WriterSeat} {answer : Result A CallFault} where
+  -- the table behind a call that may ask the helper is the lent one
+  same_table : MakesCall shared.means (MayAsk of_table) (IsHelp helps) call stopped before answer after
+      → identity_of after.table.table.now ≡ identity_of before.table.table.now
+  same_table made = either (fault_at shared.means call before)
+      (λ fault is. ap (λ (s : Shared). identity_of s.table.now) (made.refused fault is).table_stays)
+      (λ is. works_stay helps (route_of before.core) (made.done is).works)
 
   -- what was noted and completed stays
-  pub call_stays : {begins : Bool} (noted : Bool → List Call) → Refuses → (refusal_of old reason ≡ None → (stopped : Bool) × DoesIt begins stopped (noted stopped))
-      → Stays (known_by old.seat) (known_by new.seat)
-  call_stays noted refused done = either (refusal_of old reason)
-      (λ fault is. let same = (refused fault is).writer_stays in
-      all_stays (known_by old.seat) (known_by new.seat) (ap (λ (c : WriterCore WriterSeat). (known_by c.seat).calls) same) (ap (λ (c : WriterCore WriterSeat). (known_by c.seat).begun) same))
-      (λ is. let does = done is in (noted does.0, does.1.notes, works_keep_completed shared.means (route_of old) (IsHelp helps) does.1.works))
+  call_stays : MakesCall shared.means (MayAsk of_table) (IsHelp helps) call stopped before answer after → Stays (known_by before.core.seat) (known_by after.core.seat)
+  call_stays made = either (fault_at shared.means call before)
+      (λ fault is. let same = (made.refused fault is).writer_stays in
+      all_stays (known_by before.core.seat) (known_by after.core.seat) (ap (λ (c : WriterCore WriterSeat). (known_by c.seat).calls) same) (ap (λ (c : WriterCore WriterSeat). (known_by c.seat).begun) same))
+      (λ is. let does = made.done is in
+      (noted_as stopped (route_of before.core).spec.policy call, does.notes, works_keep_completed shared.means (route_of before.core) (IsHelp helps) does.works))
 
-  pub call_is : {begins : Bool} (stopped : Bool) (noted : List Call) → Refuses → Answers → (refusal_of old reason ≡ None → DoesIt begins stopped noted)
-      → ((route_of old).spec.policy ≡ Drops → (left ≡ help) × IsWriterStep shared.means table old.seat behind new.seat)
-      → route_of new ≡ route_of old
-      → IsCall helps of_table table old new help left steps later answer reason begins stopped noted
-  call_is stopped noted refused answers done alone route = record {
+-- a call that may ask the helper, made by the writer that this core is
+pub call_is : {A H : Type 0} {helps : H → ℕ → Bool → H → Type 0} {of_table : H → TableId → Type 0} {call : Call} {stopped : Bool} {answer : Result A CallFault}
+    (table behind : Shared) (old new : TraceWriter) (core : WriterCore WriterSeat) (help left : Asks H) (steps later : ℕ)
+    → core ≡ core_of old → Writes table.table.now old → new.policy ≡ old.policy → new.answered ≡ old.answered
+    → MakesCall shared.means (MayAsk of_table) (IsHelp helps) call stopped (at_call core help table steps) answer (at_call (core_of new) left behind later)
+    → IsCall helps of_table call stopped table (caller old help steps) answer (caller new left later)
+call_is {helps = helps} {of_table = of_table} {call = call} {stopped = stopped} {answer = answer} table behind old new core help left steps later is was policy answered made =
+    let same = same_table helps of_table made in
+    record {
+      behind = behind;
+      same_table = same;
+      made = subst (λ (c : WriterCore WriterSeat). MakesCall shared.means (MayAsk of_table) (IsHelp helps) call stopped (at_call c help table steps) answer
+          (at_call (core_of new) left behind later)) is made;
+      may_call = record {
+        writes = writes_back table behind old new was policy answered (ap (λ (r : Route). r.spec.policy) (made.route ∙ ap route_of is))
+            (ap (λ (r : Route). r.payload_size) (made.route ∙ ap route_of is)) same
+            made.others.setup_stays made.others.seat_stays (made.others.place_stays ∙ ap (λ (c : WriterCore WriterSeat). c.seat.place) is)
+            (subst (λ (c : WriterCore WriterSeat). CoreAgrees (setup_in table.table.now) c.seat.place (view_in new) (core_of new)) is made.agrees)
+            (made.others.letters_stay ∙ ap (λ (c : WriterCore WriterSeat). (known_by c.seat).letters) is)
+            (subst (λ (c : WriterCore WriterSeat). Stays (known_by c.seat) (view_in new)) is (call_stays helps of_table made));
+        help = subst (of_table left.help) same made.needed;
+      };
+    }
+
+module _ {call : Call} (table behind : Shared) (old new : TraceWriter) (before : WriterCore WriterSeat) (is : before ≡ core_of old)
+    (made : NotesCall shared.means call table before behind (core_of new)) where
+  -- a call that needs no chunk leaves the writer one of the table
+  pub quiet_writes : Writes table.table.now old → new.policy ≡ old.policy → new.answered ≡ old.answered → Writes table.table.now new
+  quiet_writes was policy answered =
+      let quiet = made.quiet in
+      let stays = quiet_stays (is_stalled before) (known_by before.seat) (view_in new) (call ∷ [])
+      (λ halted. ap (λ (core : WriterCore WriterSeat). known_by core.seat) (made.stalled halted).0) made.notes quiet.chunks in
+      writes_back table behind old new was policy answered (ap (λ (r : Route). r.spec.policy) (made.route ∙ ap route_of is))
+      (ap (λ (r : Route). r.payload_size) (made.route ∙ ap route_of is)) (step_stays table behind before.seat (core_of new).seat quiet.step)
+      quiet.step.setup_stays quiet.step.seat_stays (quiet.step.place_stays ∙ ap (λ (core : WriterCore WriterSeat). core.seat.place) is)
+      (subst (λ (core : WriterCore WriterSeat). CoreAgrees (setup_in table.table.now) core.seat.place (view_in new) (core_of new)) is made.agrees)
+      (quiet.step.letters_stay ∙ ap (λ (core : WriterCore WriterSeat). (known_by core.seat).letters) is)
+      (subst (λ (core : WriterCore WriterSeat). Stays (known_by core.seat) (view_in new)) is stays)
+
+  pub quiet_call : IsQuietCall table (core_of old) (core_of new) (call ∷ [])
+  quiet_call = subst (λ (core : WriterCore WriterSeat). IsQuietCall table core (core_of new) (call ∷ [])) is (record {
     behind = behind;
-    same_table = same_table (λ _. noted) refused (λ is. (stopped, done is));
-    refused = refused;
-    answers = answers;
-    done = done;
-    alone = alone;
-    route = route;
-  }
-
-  -- where the call alone knows whether it stopped
-  pub some_call : {begins : Bool} (noted : Bool → List Call) → Refuses → Answers → (refusal_of old reason ≡ None → (stopped : Bool) × DoesIt begins stopped (noted stopped))
-      → ((route_of old).spec.policy ≡ Drops → (left ≡ help) × IsWriterStep shared.means table old.seat behind new.seat)
-      → route_of new ≡ route_of old
-      → (stopped : Bool) × IsCall helps of_table table old new help left steps later answer reason begins stopped (noted stopped)
-  some_call noted refused answers done alone route = either (refusal_of old reason)
-      (λ fault is. (false, call_is false (noted false) refused answers (λ none. absurd (let same : Some fault ≡ None = sym is ∙ none in cc)) alone route))
-      (λ is. let does = done is in (does.0, call_is does.0 (noted does.0) refused answers (λ _. does.1) alone route))
-
--- a call that needs no chunk
-pub quiet_writes : (table behind : Shared) (old new : TraceWriter) (before : WriterCore WriterSeat) (noted : List Call) → before ≡ core_of old
-    → Writes table.table.now old → new.policy ≡ old.policy → new.answered ≡ old.answered → route_of (core_of new) ≡ route_of before
-    → (is_stalled before ≡ true → (core_of new ≡ before) × (behind ≡ table)) → (is_stalled before ≡ false → (view_in new).calls ≡ (known_by before.seat).calls ++ noted)
-    → IsQuiet shared.means table before.seat behind (core_of new).seat
-    → CoreAgrees (setup_in table.table.now) before.seat.place (view_in new) (core_of new) → Writes table.table.now new
-quiet_writes table behind old new before noted is was policy answered route stalled notes quiet agrees =
-    let stays = quiet_stays (is_stalled before) (known_by before.seat) (view_in new) noted
-    (λ halted. ap (λ (core : WriterCore WriterSeat). known_by core.seat) (stalled halted).0) notes quiet.chunks in
-    writes_back table behind old new was policy answered (ap (λ (r : Route). r.spec.policy) (route ∙ ap route_of is))
-    (ap (λ (r : Route). r.payload_size) (route ∙ ap route_of is)) (step_stays table behind before.seat (core_of new).seat quiet.step)
-    quiet.step.setup_stays quiet.step.seat_stays (quiet.step.place_stays ∙ ap (λ (core : WriterCore WriterSeat). core.seat.place) is)
-    (subst (λ (core : WriterCore WriterSeat). CoreAgrees (setup_in table.table.now) core.seat.place (view_in new) (core_of new)) is agrees)
-    (quiet.step.letters_stay ∙ ap (λ (core : WriterCore WriterSeat). (known_by core.seat).letters) is)
-    (subst (λ (core : WriterCore WriterSeat). Stays (known_by core.seat) (view_in new)) is stays)
-
--- a call that may ask the helper
-pub asked_writes : (table behind : Shared) (old new : TraceWriter) (before : WriterCore WriterSeat) → before ≡ core_of old
-    → Writes table.table.now old → new.policy ≡ old.policy → new.answered ≡ old.answered → route_of (core_of new) ≡ route_of before
-    → identity_of behind.table.now ≡ identity_of table.table.now → LeavesOthers shared.means table before.seat behind (core_of new).seat
-    → Stays (known_by before.seat) (view_in new)
-    → CoreAgrees (setup_in table.table.now) before.seat.place (view_in new) (core_of new) → Writes table.table.now new
-asked_writes table behind old new before is was policy answered route same others stays agrees =
-    writes_back table behind old new was policy answered (ap (λ (r : Route). r.spec.policy) (route ∙ ap route_of is))
-    (ap (λ (r : Route). r.payload_size) (route ∙ ap route_of is)) same
-    others.setup_stays others.seat_stays (others.place_stays ∙ ap (λ (core : WriterCore WriterSeat). core.seat.place) is)
-    (subst (λ (core : WriterCore WriterSeat). CoreAgrees (setup_in table.table.now) core.seat.place (view_in new) (core_of new)) is agrees)
-    (others.letters_stay ∙ ap (λ (core : WriterCore WriterSeat). (known_by core.seat).letters) is)
-    (subst (λ (core : WriterCore WriterSeat). Stays (known_by core.seat) (view_in new)) is stays)
-
-pub quiet_call : (table behind : Shared) (old new : WriterCore WriterSeat) (noted : List Call) → (is_stalled old ≡ true → (new ≡ old) × (behind ≡ table))
-    → is_stalled new ≡ is_stalled old → (is_stalled old ≡ false → (known_by new.seat).calls ≡ (known_by old.seat).calls ++ noted)
-    → IsQuiet shared.means table old.seat behind new.seat → route_of new ≡ route_of old → IsQuietCall table old new noted
-quiet_call table behind old new noted stalled goes notes quiet route = record {
-  behind = behind;
-  same_table = step_stays table behind old.seat new.seat quiet.step;
-  stalled = stalled;
-  goes = goes;
-  notes = notes;
-  quiet = quiet;
-  route = route;
-}
+    same_table = step_stays table behind before.seat (core_of new).seat made.quiet.step;
+    stalled = made.stalled;
+    goes = made.goes;
+    notes = made.notes;
+    quiet = made.quiet;
+    route = made.route;
+  })

@@ -23,7 +23,7 @@ use Rattle.trace_writer.proofs.accounts.Letters.{letters_agree}
 use Rattle.trace_writer.proofs.holding.KeptChunks.{none_counted}
 use Rattle.trace_writer.proofs.holding.Answering.{cut_stays, answered_cut, all_completed, empty_holds_none}
 use Rattle.thread_writer.specs.declared.writer.TraceWriter.{TraceWriter}
-use Rattle.thread_writer.specs.Polling.{AnswersWith, HearsAlone, IsFlushed}
+use Rattle.thread_writer.specs.Polling.{AnswersAlone, AnswersWith, HearsAlone, IsFlushed}
 use Rattle.thread_writer.specs.Writing.{core_of, view_in, AnswersAreCuts, IsQuietCall, Writes}
 use Rattle.thread_writer.proofs.Calls.{all_stays, cuts_stay}
 
@@ -114,11 +114,10 @@ answered_writes table old new flush chunks was policy answered none flushed comp
 pub polled : (table : HostTable) (shared_table : Shared) (old heard flushed new : TraceWriter) (flush chunks : ℕ) → is_stalled (core_of old) ≡ false
     → HearsAlone (core_of old) (core_of heard) → (view_in heard).letters.known ≡ flush → last_flush (view_in old).letters.answers < flush
     → Writes table flushed → IsQuietCall shared_table (core_of heard) (core_of flushed) (Flushed ∷ []) → holds_chunk (core_of flushed) ≡ false
-    → chunks ≡ length (completed_images (view_in flushed).begun) → view_in new ≡ answers_with (view_in flushed) flush chunks
-    → (core_of new).writer ≡ (core_of flushed).writer → (core_of new).seat.place ≡ (core_of flushed).seat.place
+    → chunks ≡ length (completed_images (view_in flushed).begun) → AnswersAlone flush chunks (core_of flushed) (core_of new)
     → AnswersWith flush chunks (core_of old) (core_of new)
-polled table shared_table old heard flushed new flush chunks going alone known newer writes call none complete view writer place =
-    let quiet = call.quiet in let rest = alone.rest in
+polled table shared_table old heard flushed new flush chunks going alone known newer writes call none complete gave =
+    let view = gave.view in let writer = gave.writer in let quiet = call.quiet in let rest = alone.rest in
     let goes : is_stalled (core_of heard) ≡ false = ap (λ (w : Writer). is_stalled_state w.state) alone.writer ∙ going in
     let noted : (view_in flushed).calls ≡ (view_in old).calls ++ Flushed ∷ [] = call.notes goes ∙ ap (λ (v : WriterView). v.calls ++ Flushed ∷ []) rest in
     let calls : (view_in new).calls ≡ (view_in flushed).calls = ap (λ (v : WriterView). v.calls) view in
@@ -145,5 +144,5 @@ polled table shared_table old heard flushed new flush chunks going alone known n
       holds_none = ap (λ (w : Writer). not (is_empty w.state)) writer ∙ none;
       goes = ap (λ (w : Writer). is_stalled_state w.state) writer ∙ (call.goes ∙ goes);
       route = ap (λ (w : Writer). w.route) writer ∙ (call.route ∙ ap (λ (w : Writer). w.route) alone.writer);
-      place = place ∙ (quiet.step.place_stays ∙ alone.place);
+      place = gave.place ∙ (quiet.step.place_stays ∙ alone.place);
     }

@@ -2,7 +2,8 @@
 use Rattle.std.specs.Prelude.{◌≡◌, ℕ, ◌<◌, ◌≤◌, false, Option, Some, None, List, [], ◌∷◌, ◌++◌, length}
 use Rattle.trace_model.specs.Calls.{Call, Flushed}
 use Rattle.chunk_plain.specs.Histories.{completed_images}
-use Rattle.chunk_plain.specs.Letters.{last_flush}
+use Rattle.chunk_plain.specs.Letters.{last_flush, answers_with}
+use Rattle.chunk_plain.specs.Views.{WriterView}
 use Rattle.chunk_words.specs.declared.seats.WriterSeat.{WriterSeat}
 use Rattle.chunk_words.specs.Sits.{known_by}
 use Rattle.trace_writer.specs.declared.writer.WriterCore.{WriterCore}
@@ -19,6 +20,17 @@ pub record HearsAlone (old new : WriterCore WriterSeat) : Type 0 where
   pub place : new.seat.place ≡ old.seat.place
   pub rises : (known_by old.seat).letters.known ≤ (known_by new.seat).letters.known
   pub rest : known_by new.seat ≡ record (known_by old.seat) { letters = record (known_by old.seat).letters { known = (known_by new.seat).letters.known } }
+
+-- the request is the newest one that the writer knows of, and newer than its last answer
+pub record IsNewRequest (flush : ℕ) (view : WriterView) : Type 0 where
+  pub known : flush ≡ view.letters.known
+  pub newer : last_flush view.letters.answers < flush
+
+-- of its view all is as before but that it gave this answer; and it is as before
+pub record AnswersAlone (flush chunks : ℕ) (old new : WriterCore WriterSeat) : Type 0 where
+  pub view : known_by new.seat ≡ answers_with (known_by old.seat) flush chunks
+  pub writer : new.writer ≡ old.writer
+  pub place : new.seat.place ≡ old.seat.place
 
 -- no request stands that is newer than its last answer
 pub record FindsNoRequest (old new : WriterCore WriterSeat) : Type 0 where

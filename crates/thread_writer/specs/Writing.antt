@@ -1,10 +1,8 @@
 -- The writer of a thread, as its callers see it: by the view of its seat.
-use Rattle.std.specs.Prelude.{◌≡◌, ℕ, ◌+◌, Bool, true, false, List, ◌++◌, Option, Some, None, Result, MatchResult}
+use Rattle.std.specs.Prelude.{◌≡◌, ℕ, ◌+◌, Bool, true, false, List, ◌++◌, Result}
 use Rattle.atomic_table.specs.Seated.{TableId}
 use Rattle.crossbeam_utils.specs.Padded.{padded_value}
-use Rattle.trace_base.specs.declared.policy.WriterPolicy.TheVariants.{Drops}
 use Rattle.trace_model.specs.Calls.{Call}
-use Rattle.chunk_plain.specs.Meaning.{IsWriterStep}
 use Rattle.chunk_plain.specs.Letters.{last_flush}
 use Rattle.chunk_plain.specs.Views.{At, Reply, WriterView}
 use Rattle.chunk_words.specs.declared.host.HostTable.{HostTable}
@@ -13,11 +11,11 @@ use Rattle.chunk_words.specs.declared.shared.Shared.{Shared}
 use Rattle.chunk_words.specs.contracts.shared.SharedWords.TheImpl.{ghosts as shared}
 use Rattle.chunk_words.specs.Sits.{Sits, setup_in, known_by}
 use Rattle.trace_writer.specs.declared.fault.CallFault.{CallFault}
-use Rattle.trace_writer.specs.declared.fault.CallFault.TheVariants as call_fault
 use Rattle.trace_writer.specs.declared.writer.WriterCore.{WriterCore}
-use Rattle.trace_writer.specs.Core.{CoreAgrees, is_stalled, route_of, refusal_of}
+use Rattle.trace_writer.specs.Calling.{MakesCall}
+use Rattle.trace_writer.specs.Core.{CoreAgrees, is_stalled, route_of}
 use Rattle.trace_writer.specs.Answered.{IsAnsweredCut}
-use Rattle.trace_writer.specs.Asked.{IsAsked, LeavesAll}
+use Rattle.trace_writer.specs.Moments.{CallMoment, at_call}
 use Rattle.trace_writer.specs.OwnSteps.{IsQuiet}
 use Rattle.thread_writer.specs.declared.helper.Asks.{Asks}
 use Rattle.thread_writer.specs.declared.writer.TraceWriter.{TraceWriter}
@@ -46,20 +44,33 @@ pub record Writes (table : HostTable) (writer : TraceWriter) : Type 0 where
   pub answered_is : writer.answered ≡ last_flush (view_in writer).letters.answers
   pub cuts : AnswersAreCuts (core_of writer)
 
--- A call that may ask the helper, over the lent table, and may be a packet's begin: what it leaves where it is refused, its answer where it isn't, and what it then did,
--- as the same call of a writer over any table. A writer that drops leaves its helper as it was.
-pub record IsCall {A H : Type 0} (helps : H → ℕ → Bool → H → Type 0) (of_table : H → TableId → Type 0) (table : Shared) (old new : WriterCore WriterSeat) (help left : Asks H) (steps later : ℕ)
-    (answer : Result A CallFault) (reason : Option CallFault) (begins stopped : Bool) (noted : List Call) : Type 0 where
+-- a writer with the helper that it asks, and its steps, as they stand at a moment
+pub record Caller (H : Type 0) : Type 0 where
+  pub writer : TraceWriter
+  pub help : Asks H
+  pub steps : ℕ
+
+-- the moment at which these stand so
+abbrev pub caller : {H : Type 0} → TraceWriter → Asks H → ℕ → Caller H
+caller writer help steps = record { writer = writer; help = help; steps = steps }
+
+-- the same as a writer over any table has it, here over the lent one
+abbrev pub moment_on : {H : Type 0} → Shared → Caller H → CallMoment (Asks H) Shared WriterSeat
+moment_on table now = at_call (core_of now.writer) now.help table now.steps
+
+-- The writer is one of this table, and its helper may be asked there.
+pub record MayCallOn {H : Type 0} (of_table : H → TableId → Type 0) (table : HostTable) (now : Caller H) : Type 0 where
+  pub writes : Writes table now.writer
+  pub help : of_table now.help.help (identity_of table)
+
+-- A call that may ask for chunks, over the lent table: what it did, as the same call of a writer over any table, and the writer may call again.
+pub record IsCall {A H : Type 0} (helps : H → ℕ → Bool → H → Type 0) (of_table : H → TableId → Type 0) (call : Call) (stopped : Bool) (table : Shared)
+    (before : Caller H) (answer : Result A CallFault) (after : Caller H) : Type 0 where
   -- the table as the call leaves it
   pub behind : Shared
   pub same_table : identity_of behind.table.now ≡ identity_of table.table.now
-  pub refused : (fault : CallFault) → refusal_of old reason ≡ Some fault → LeavesAll fault answer old new table behind help left steps later
-  pub answers : refusal_of old reason ≡ None
-      → MatchResult answer (λ _. is_stalled new ≡ false) (λ fault. (fault ≡ call_fault.Stalled) × (is_stalled new ≡ true))
-  pub done : refusal_of old reason ≡ None → IsAsked shared.means (MayAsk of_table) (IsHelp helps)
-      begins (route_of old) help table old.seat steps stopped noted (is_stalled new) left behind new.seat later
-  pub alone : (route_of old).spec.policy ≡ Drops → (left ≡ help) × IsWriterStep shared.means table old.seat behind new.seat
-  pub route : route_of new ≡ route_of old
+  pub made : MakesCall shared.means (MayAsk of_table) (IsHelp helps) call stopped (moment_on table before) answer (moment_on behind after)
+  pub may_call : MayCallOn of_table table.table.now after
 
 -- A call that needs no chunk, over the lent table: a stalled writer is as before, another one notes the call.
 pub record IsQuietCall (table : Shared) (old new : WriterCore WriterSeat) (noted : List Call) : Type 0 where

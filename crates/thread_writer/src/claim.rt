@@ -1,12 +1,8 @@
 //! A claim on the table that threads share.
-ghost use Rattle.std.specs.Prelude.{◌≡◌, ◌+◌, ◌-◌, ◌<◌, length, IfSome, IfNone};
-ghost use Rattle.chunk_plain.specs.declared.tokens.TheConstants.{MAX_HELD, POSITION_LIMIT};
-ghost use Rattle.chunk_plain.specs.Setup.{range_of, producer_of, id_at};
-ghost use Rattle.chunk_plain.specs.Owned.{held_count};
-ghost use Rattle.chunk_plain.specs.Drafts.{IsHolding};
-ghost use Rattle.chunk_plain.specs.Words.{IsBegun};
+ghost use Rattle.std.specs.Prelude.{◌≡◌, ◌+◌, ◌-◌, IfSome, IfNone};
 ghost use Rattle.chunk_words.specs.Sits.{Sits, setup_in, known_by};
-ghost use Rattle.claim_arbiter.specs.Claiming.{range_in, AsksInVain, ClaimsInTurn};
+ghost use Rattle.claim_arbiter.specs.Claiming.{AsksInVain};
+ghost use Rattle.thread_writer.specs.Claiming.{MayClaimOn, ClaimsAs};
 
 use chunk_plain::Held;
 use chunk_words::{HostTable, Shared, WriterSeat};
@@ -24,17 +20,10 @@ pub fn claim_shared<L: Ledger>(
     id: u32,
     steps: &mut Steps<L>,
 ) -> Option<Held>
-    requires seat { Sits table.now seat.old }
-    requires range { range_of (setup_in table.now) (producer_of (setup_in table.now) seat.old.place) ≡ range_in arbiter.now }
-    requires few { held_count (known_by seat.old).begun < MAX_HELD }
-    requires id { id ≡ id_at (setup_in table.now) seat.old.place (length (known_by seat.old).begun) }
-    requires few_begun { length (known_by seat.old).begun < POSITION_LIMIT }
+    requires may_claim { MayClaimOn table.now arbiter.now seat.old id }
     ensures lost { IfNone result (AsksInVain (setup_in table.now) arbiter.now.first arbiter.now.chunks
         (known_by seat.old) (known_by seat.new)) }
-    ensures won { IfSome result (λ held. ClaimsInTurn (setup_in table.now) arbiter.now.first arbiter.now.chunks held.chunk
-        (known_by seat.old) (known_by seat.new)) }
-    ensures begun { IfSome result (λ held. IsBegun (setup_in table.now) held.chunk (length (known_by seat.old).begun) held) }
-    ensures holding { IfSome result (λ held. IsHolding (known_by seat.new) held.chunk (length (known_by seat.old).begun)) }
+    ensures won { IfSome result (λ held. ClaimsAs (setup_in table.now) arbiter.now (known_by seat.old) (known_by seat.new) held) }
     ensures seat { Sits table.now seat.new }
     ensures place { seat.new.place ≡ seat.old.place }
     ensures steps_lost { IfNone result (steps.new ≡ steps.old + arbiter.now.chunks) }

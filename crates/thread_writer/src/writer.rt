@@ -8,7 +8,6 @@ ghost use Rattle.trace_model.specs.Encoding.{number_field, nested_tag};
 ghost use Rattle.trace_model.specs.Packets.{begun_count, dropped_at_begin};
 ghost use Rattle.chunk_plain.specs.Histories.{completed_images};
 ghost use Rattle.chunk_plain.specs.Setup.{spot, range_of, producer_of, HasProducer, IsChunkOf};
-ghost use Rattle.chunk_plain.specs.Letters.{last_flush, answers_with};
 ghost use Rattle.chunk_plain.specs.Views.{newcomer, asked_in};
 ghost use Rattle.chunk_words.specs.declared.host.HostTable.{HostTable};
 ghost use Rattle.chunk_words.specs.Knows.{later};
@@ -16,13 +15,12 @@ ghost use Rattle.chunk_words.specs.Sits.{Sits, Passes, setup_in, known_by, known
 ghost use Rattle.claim_arbiter.specs.Claiming.{range_in};
 ghost use Rattle.trace_writer.specs.declared.ids.TheConstants.{PACKET_IDS};
 ghost use Rattle.trace_writer.specs.Agreement.{counted};
-ghost use Rattle.trace_writer.specs.Asked.{begun_as, written_as, stops_with};
-ghost use Rattle.trace_writer.specs.Core.{in_packet, open_depth, field_fault, nested_fault, bytes_size};
+ghost use Rattle.trace_writer.specs.Asked.{stops_with};
+ghost use Rattle.trace_writer.specs.Core.{in_packet, open_depth, bytes_size};
 ghost use Rattle.trace_writer.specs.Core.{holds_chunk, is_stalled, route_of, begins_here, FitsHere};
-ghost use Rattle.chunk_words.specs.Named.{identity_of};
 ghost use Rattle.thread_writer.specs.Lent.{lent};
-ghost use Rattle.thread_writer.specs.Polling.{HearsAlone, IsFlushed, Polls};
-ghost use Rattle.thread_writer.specs.Writing.{core_of, view_in, Writes, IsCall, IsQuietCall};
+ghost use Rattle.thread_writer.specs.Polling.{HearsAlone, IsFlushed, IsNewRequest, AnswersAlone, Polls};
+ghost use Rattle.thread_writer.specs.Writing.{core_of, view_in, Writes, MayCallOn, IsCall, IsQuietCall, caller};
 
 use crate::helper::{Asks, Helper};
 use chunk_words::{HostTable, ReadPass, Shared, WriterSeat};
@@ -85,15 +83,11 @@ impl TraceWriter {
         help: &mut Asks<H>,
         steps: &mut Steps<L>,
     ) -> Result<Begun, CallFault>
-        requires writes { Writes table.now self.old }
-        requires help { H.of_table help.old.help (identity_of table.now) }
+        requires may_call { MayCallOn H.of_table table.now (caller self.old help.old steps.old) }
         requires none_begun { in_packet (view_in self.old) ≡ false }
         requires ids { length (view_in self.old).begun + PACKET_IDS ≤ POSITION_LIMIT }
-        ensures writes { Writes table.now self.new }
-        ensures help { H.of_table help.new.help (identity_of table.now) }
-        ensures call { IsCall H.helps H.of_table (lent table.entry) (core_of self.old) (core_of self.new)
-            help.old help.new steps.old steps.new result None true (stops_with result)
-            (begun_as (stops_with result) (route_of (core_of self.old)).spec.policy) }
+        ensures call { IsCall H.helps H.of_table (call.Begun true) (stops_with result)
+            (lent table.entry) (caller self.old help.old steps.old) result (caller self.new help.new steps.new) }
         ensures asked { begins_here (core_of self.old) → (view_in self.new).asked ≡ (view_in self.old).asked }
         ensures in_packet { IfOk result (λ _. in_packet (view_in self.new) ≡ true) }
         ensures depth { IfOk result (λ _. open_depth (view_in self.new) ≡ 0) }
@@ -111,16 +105,11 @@ impl TraceWriter {
         value: u64,
         steps: &mut Steps<L>,
     ) -> Result<(), CallFault>
-        requires writes { Writes table.now self.old }
-        requires help { H.of_table help.old.help (identity_of table.now) }
+        requires may_call { MayCallOn H.of_table table.now (caller self.old help.old steps.old) }
         requires begun { in_packet (view_in self.old) ≡ true }
-        requires least { 1 ≤ field }
-        requires most { field ≤ MAX_FIELD }
-        ensures writes { Writes table.now self.new }
-        ensures help { H.of_table help.new.help (identity_of table.now) }
-        ensures call { (stopped : Bool) × IsCall H.helps H.of_table (lent table.entry) (core_of self.old) (core_of self.new)
-            help.old help.new steps.old steps.new result (field_fault (view_in self.old) field (length (number_field field value))) false stopped
-            (written_as stopped (route_of (core_of self.old)).spec.policy (call.Number field value)) }
+        requires field { (1 ≤ field) × (field ≤ MAX_FIELD) }
+        ensures call { (stopped : Bool) × IsCall H.helps H.of_table (call.Number field value) stopped
+            (lent table.entry) (caller self.old help.old steps.old) result (caller self.new help.new steps.new) }
         ensures asked { FitsHere (core_of self.old) (length (number_field field value))
             → (view_in self.new).asked ≡ (view_in self.old).asked }
         ensures in_packet { in_packet (view_in self.new) ≡ true }
@@ -140,17 +129,12 @@ impl TraceWriter {
         times: u32,
         steps: &mut Steps<L>,
     ) -> Result<(), CallFault>
-        requires writes { Writes table.now self.old }
-        requires help { H.of_table help.old.help (identity_of table.now) }
+        requires may_call { MayCallOn H.of_table table.now (caller self.old help.old steps.old) }
         requires begun { in_packet (view_in self.old) ≡ true }
-        requires least { 1 ≤ field }
-        requires most { field ≤ MAX_FIELD }
+        requires field { (1 ≤ field) × (field ≤ MAX_FIELD) }
         requires text { length value.now ≤ MAX_INPUT }
-        ensures writes { Writes table.now self.new }
-        ensures help { H.of_table help.new.help (identity_of table.now) }
-        ensures call { (stopped : Bool) × IsCall H.helps H.of_table (lent table.entry) (core_of self.old) (core_of self.new)
-            help.old help.new steps.old steps.new result (field_fault (view_in self.old) field (bytes_size field times value.now)) false stopped
-            (written_as stopped (route_of (core_of self.old)).spec.policy (call.Bytes field value.now times)) }
+        ensures call { (stopped : Bool) × IsCall H.helps H.of_table (call.Bytes field value.now times) stopped
+            (lent table.entry) (caller self.old help.old steps.old) result (caller self.new help.new steps.new) }
         ensures asked { FitsHere (core_of self.old) (bytes_size field times value.now)
             → (view_in self.new).asked ≡ (view_in self.old).asked }
         ensures in_packet { in_packet (view_in self.new) ≡ true }
@@ -169,16 +153,11 @@ impl TraceWriter {
         field: u32,
         steps: &mut Steps<L>,
     ) -> Result<(), CallFault>
-        requires writes { Writes table.now self.old }
-        requires help { H.of_table help.old.help (identity_of table.now) }
+        requires may_call { MayCallOn H.of_table table.now (caller self.old help.old steps.old) }
         requires begun { in_packet (view_in self.old) ≡ true }
-        requires least { 1 ≤ field }
-        requires most { field ≤ MAX_FIELD }
-        ensures writes { Writes table.now self.new }
-        ensures help { H.of_table help.new.help (identity_of table.now) }
-        ensures call { (stopped : Bool) × IsCall H.helps H.of_table (lent table.entry) (core_of self.old) (core_of self.new)
-            help.old help.new steps.old steps.new result (nested_fault (view_in self.old) field) false stopped
-            (written_as stopped (route_of (core_of self.old)).spec.policy (call.Nested field)) }
+        requires field { (1 ≤ field) × (field ≤ MAX_FIELD) }
+        ensures call { (stopped : Bool) × IsCall H.helps H.of_table (call.Nested field) stopped
+            (lent table.entry) (caller self.old help.old steps.old) result (caller self.new help.new steps.new) }
         ensures asked { FitsHere (core_of self.old) (length (nested_tag field) + 4)
             → (view_in self.new).asked ≡ (view_in self.old).asked }
         ensures in_packet { in_packet (view_in self.new) ≡ true }
@@ -281,13 +260,10 @@ impl TraceWriter {
         requires writes { Writes table.now self.old }
         requires flushed { IsFlushed (view_in self.old).calls }
         requires none_held { holds_chunk (core_of self.old) ≡ false }
-        requires known { flush ≡ (view_in self.old).letters.known }
-        requires newer { last_flush (view_in self.old).letters.answers < flush }
+        requires request { IsNewRequest flush (view_in self.old) }
         ensures writes { Writes table.now self.new }
         ensures complete { result ≡ length (completed_images (view_in self.old).begun) }
-        ensures view { view_in self.new ≡ answers_with (view_in self.old) flush result }
-        ensures writer { (core_of self.new).writer ≡ (core_of self.old).writer }
-        ensures place { (core_of self.new).seat.place ≡ (core_of self.old).seat.place }
+        ensures alone { AnswersAlone flush result (core_of self.old) (core_of self.new) }
     {
         let chunks = self.completed();
         table.answer(&mut self.core.seat, flush, chunks);

@@ -1,19 +1,13 @@
-use Rattle.std.proofs.Common.{[], ◌∷◌, refl, subst}
+use Rattle.std.proofs.Common.{refl}
 use Rattle.crossbeam_utils.specs.Padded.{padded_with_value}
-use Rattle.trace_model.specs.Calls.{Flushed}
-use Rattle.chunk_words.specs.declared.seats.WriterSeat.{WriterSeat}
-use Rattle.trace_writer.specs.declared.writer.WriterCore.{WriterCore}
 use Rattle.thread_writer.specs.Lent.{lent}
-use Rattle.thread_writer.specs.Writing.{IsQuietCall}
 use Rattle.thread_writer.proofs.Calls.{quiet_writes, quiet_call}
 use Rattle.thread_writer.proofs.writer.TraceWriter.flush.Goals as goal
 
 pub returns-clause-writes : goal.returns-clause-writes
 returns-clause-writes c = quiet_writes (lent c.args.table) c.flush.new.table c.args.self.now (record c.args.self.now { core = padded_with_value c.args.self.now.core c.flush.new.self })
-    c.deref_mut.result.now (Flushed ∷ []) c.deref_mut.ensures.value c.requires.writes refl refl c.flush.ensures.route c.flush.ensures.stalled c.flush.ensures.notes c.flush.ensures.quiet c.flush.ensures.agrees
+    c.deref_mut.result.now c.deref_mut.ensures.value c.flush.ensures.call c.requires.writes refl refl
 
 pub returns-clause-call : goal.returns-clause-call
-returns-clause-call c =
-    let did = c.flush.ensures in
-    subst (λ (core : WriterCore WriterSeat). IsQuietCall (lent c.args.table) core c.flush.new.self (Flushed ∷ [])) c.deref_mut.ensures.value
-    (quiet_call (lent c.args.table) c.flush.new.table c.deref_mut.result.now c.flush.new.self (Flushed ∷ []) did.stalled did.goes did.notes did.quiet did.route)
+returns-clause-call c = quiet_call (lent c.args.table) c.flush.new.table c.args.self.now (record c.args.self.now { core = padded_with_value c.args.self.now.core c.flush.new.self })
+    c.deref_mut.result.now c.deref_mut.ensures.value c.flush.ensures.call

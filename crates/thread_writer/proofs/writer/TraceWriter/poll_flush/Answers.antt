@@ -9,4 +9,4 @@ returns-clause-polls c going =
     polled c.args.table.now (lent c.args.table) c.args.self.now c.learn_requests-flush.new.self c.flush.new.self c.answer-chunks.new.self
     c.learn_requests-flush.result c.answer-chunks.result going heard.alone heard.known
     (let last = c.requires.writes.answered_is in let same = heard.answered in omega (arith, last, same))
-    did.writes did.call did.none_held gave.complete gave.view gave.writer gave.place
+    did.writes did.call did.none_held gave.complete gave.alone
