@@ -19,7 +19,7 @@ use Rattle.chunk_plain.specs.World.{World, writer}
 use Rattle.world_model.specs.FirstBuffers.{payload_at}
 use Rattle.trace_writer.specs.declared.route.Route.{Route}
 use Rattle.trace_writer.specs.declared.writer.WriterCore.{WriterCore}
-use Rattle.trace_writer.specs.Asked.{begun_as, written_as}
+use Rattle.trace_writer.specs.Asked.{begun_as, written_as, noted_as}
 use Rattle.trace_writer.specs.Core.{CoreAgrees, route_of}
 use Rattle.trace_writer.specs.Helping.{refuses, loses, rounds_for}
 use Rattle.trace_writer.specs.Losing.{LosesBehind}
@@ -31,7 +31,7 @@ use Rattle.trace_writer.specs.Answered.{KeepsCompleted}
 use Rattle.trace_writer.proofs.holding.Answering.{works_keep_completed}
 use Rattle.replay_model.specs.Does.{MayNeedChunk, Notes, Wrote, dropped_call, policy_of}
 use Rattle.replay_host.specs.declared.helper.Collecting.{Collecting}
-use Rattle.replay_host.specs.Asking.{IsReadyFor, AreReady, asked_at, noted_as, IsCalled, KeepsService, DoesAsk}
+use Rattle.replay_host.specs.Asking.{IsReadyFor, AreReady, asked_at, IsCalled, KeepsService, DoesAsk}
 use Rattle.replay_host.specs.Helping.{MayHelp, Helps}
 use Rattle.replay_host.specs.Standing.{IsSeated, Stands}
 use Rattle.replay_host.proofs.KeepLemmas.{works_keep}

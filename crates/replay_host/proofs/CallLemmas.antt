@@ -1,5 +1,5 @@
 -- What a writer's call did, in one form for all calls.
-use Rattle.std.proofs.Common.{◌≡◌, ◌∙◌, ℕ, ◌+◌, ◌<◌, ◌≤◌, Bool, true, false, List, ◌∷◌, ◌++◌, length, refl, sym, ap, subst, arith, length-append, inl, inr}
+use Rattle.std.proofs.Common.{◌≡◌, ◌∙◌, ℕ, ◌+◌, ◌<◌, ◌≤◌, Bool, true, false, List, [], ◌∷◌, ◌++◌, length, refl, sym, ap, subst, arith, length-append, inl, inr}
 use Rattle.trace_base.specs.declared.policy.WriterPolicy.{WriterPolicy}
 use Rattle.trace_base.specs.declared.policy.WriterPolicy.TheVariants.{Drops, Stalls, StallsThenDrops}
 use Rattle.trace_model.specs.Calls.{Call, Begun}
@@ -13,18 +13,20 @@ use Rattle.chunk_plain.specs.Views.{WriterView}
 use Rattle.trace_writer.specs.declared.ids.TheConstants.{PACKET_IDS}
 use Rattle.trace_writer.specs.declared.state.Writer.{Writer}
 use Rattle.trace_writer.specs.declared.writer.WriterCore.{WriterCore}
-use Rattle.trace_writer.specs.Asked.{IsAsked}
-use Rattle.std.proofs.Common.{Option, Some, None}
+use Rattle.trace_writer.specs.Asked.{begins_one, noted_as}
+use Rattle.trace_writer.specs.Calling.{MakesCall, NotesCall, fault_at}
+use Rattle.std.proofs.Common.{Option, Some, None, Result}
 use Rattle.std.specs.Prelude.{if◌then◌else◌}
 use Rattle.trace_writer.specs.declared.fault.CallFault.{CallFault}
 use Rattle.trace_writer.specs.declared.fault.CallFault.TheVariants as fault
-use Rattle.trace_writer.specs.Core.{CoreAgrees, WriterAgrees, is_stalled, refusal_of, route_of}
-use Rattle.trace_writer.specs.Helping.{LeavesWriters, Works, Done, refuses, loses}
+use Rattle.trace_writer.specs.Core.{WriterAgrees, is_stalled, refusal_of, route_of}
+use Rattle.trace_writer.specs.Helping.{WorksOn, Done, refuses, loses}
 use Rattle.trace_writer.specs.Outcomes.{held_images, images_so_far, patches_so_far}
-use Rattle.trace_writer.specs.OwnSteps.{IsQuiet, IsSilent, GetsChunk, IsVainTry, IsOutNow}
+use Rattle.trace_writer.specs.Moments.{CallMoment, view_at}
+use Rattle.trace_writer.specs.OwnSteps.{IsQuiet}
 use Rattle.trace_writer.proofs.accounts.CutLaws.{agreeing_is_cut}
 use Rattle.replay_model.specs.Does.{MayNeedChunk}
-use Rattle.replay_host.specs.Asking.{IsReadyFor, IsCalled, IsStalledCall, begins_one, noted_as}
+use Rattle.replay_host.specs.Asking.{IsReadyFor, IsCalled, IsStalledCall}
 use Rattle.replay_host.proofs.ReadyLemmas.{between_is}
 use Rattle.replay_host.proofs.WroteLemmas.{begun_many}
 
@@ -35,24 +37,24 @@ loses_by Stalls stopped none is = absurd (let never : true ≡ false = sym is �
 loses_by (StallsThenDrops tries) stopped none is = refl
 
 -- a call that may have asked for chunks
-pub asked_called : {H T W S : Type 0} (means : Meaning T W S) (needs : H → T → Type 0) (helps : H → T → ℕ → Bool → H → T → Type 0)
-    (call : Call) (helper : H) (old : T) (core : WriterCore W) (steps : ℕ) (stopped : Bool) (noted : List Call) (left : H) (new : T) (after : WriterCore W) (later : ℕ)
-    → MayNeedChunk call → IsAsked means needs helps (begins_one call) (route_of core) helper old core.seat steps stopped noted (is_stalled after) left new after.seat later
-    → CoreAgrees (means.setup old) (means.place core.seat) (means.view new after.seat) after → is_stalled after ≡ false
-    → noted ≡ noted_as stopped (route_of core).spec.policy call
-    → IsCalled means needs helps call helper old core left new after
-asked_called means needs helps call helper old core steps stopped noted left new after later may asked agrees going is = record {
-  agrees = agrees;
-  going = going;
-  needed = asked.needed;
-  others = asked.others;
-  stopped = stopped;
-  drops = loses_by (route_of core).spec.policy stopped (sym asked.stalls ∙ going);
-  lost = λ stops. asked.lost stops (loses_by (route_of core).spec.policy stopped (sym asked.stalls ∙ going) stops);
-  asks = inl may;
-  works = asked.works;
-  notes = asked.notes ∙ ap (λ (cs : List Call). (means.view old core.seat).calls ++ cs) is;
-}
+pub asked_called : {A H T W S : Type 0} {means : Meaning T W S} {needs : H → T → Type 0} {helps : H → T → ℕ → Bool → H → T → Type 0}
+    {stopped : Bool} {before behind : CallMoment H T W} {answer : Result A CallFault} (call : Call)
+    → MayNeedChunk call → MakesCall means needs helps call stopped before answer behind → fault_at means call before ≡ None → is_stalled behind.core ≡ false
+    → IsCalled means needs helps call before.helper before.table before.core behind.helper behind.table behind.core
+asked_called {stopped = stopped} {before = before} call may made none going =
+    let asked = made.done none in let losing = loses_by (route_of before.core).spec.policy stopped (sym asked.stalls ∙ going) in
+    record {
+      agrees = made.agrees;
+      going = going;
+      needed = made.needed;
+      others = made.others;
+      stopped = stopped;
+      drops = losing;
+      lost = λ stops. asked.lost stops (losing stops);
+      asks = inl may;
+      works = asked.works;
+      notes = asked.notes;
+    }
 
 -- a call that stopped and is refused is one of a writer that stalls
 stalls_by : (policy : WriterPolicy) (stopped : Bool) → refuses policy stopped ≡ true → (policy ≡ Stalls) × (stopped ≡ true)
@@ -61,53 +63,51 @@ stalls_by Stalls stopped is = (refl, is)
 stalls_by (StallsThenDrops tries) stopped is = absurd (let never : false ≡ true = is in cc)
 
 -- a call in which its writer stalled
-pub asked_stalled : {H T W S : Type 0} (means : Meaning T W S) (needs : H → T → Type 0) (helps : H → T → ℕ → Bool → H → T → Type 0)
-    (call : Call) (helper : H) (old : T) (core : WriterCore W) (steps : ℕ) (stopped : Bool) (noted : List Call) (left : H) (new : T) (after : WriterCore W) (later : ℕ)
-    → MayNeedChunk call → IsAsked means needs helps (begins_one call) (route_of core) helper old core.seat steps stopped noted (is_stalled after) left new after.seat later
-    → CoreAgrees (means.setup old) (means.place core.seat) (means.view new after.seat) after → is_stalled after ≡ true
-    → noted ≡ noted_as stopped (route_of core).spec.policy call
-    → IsStalledCall means needs helps call helper old core left new after
-asked_stalled means needs helps call helper old core steps stopped noted left new after later may asked agrees halted is =
-    let by = stalls_by (route_of core).spec.policy stopped (sym asked.stalls ∙ halted) in
+pub asked_stalled : {A H T W S : Type 0} {means : Meaning T W S} {needs : H → T → Type 0} {helps : H → T → ℕ → Bool → H → T → Type 0}
+    {stopped : Bool} {before behind : CallMoment H T W} {answer : Result A CallFault} (call : Call)
+    → MayNeedChunk call → MakesCall means needs helps call stopped before answer behind → fault_at means call before ≡ None → is_stalled behind.core ≡ true
+    → IsStalledCall means needs helps call before.helper before.table before.core behind.helper behind.table behind.core
+asked_stalled {means = means} {helps = helps} {stopped = stopped} {before = before} {behind = behind} call may made none halted =
+    let asked = made.done none in let route = route_of before.core in
+    let by = stalls_by route.spec.policy stopped (sym asked.stalls ∙ halted) in
     record {
       may = may;
       policy_is = by.0;
-      agrees = agrees;
+      agrees = made.agrees;
       halted = halted;
-      needed = asked.needed;
-      others = asked.others;
-      works = subst (λ (b : Bool). Works (route_of core).spec.policy (IsSilent means) (IsQuiet means) (GetsChunk means (route_of core)) (IsVainTry means (route_of core) (begins_one call)) (IsOutNow means (route_of core))
-          (λ asked table answer behind freed. helps asked table (route_of core).spec.producer answer behind freed × LeavesWriters means table freed)
-          helper old core.seat b left new after.seat) by.1 asked.works;
-      notes = asked.notes ∙ ap (λ (cs : List Call). (means.view old core.seat).calls ++ cs)
-          (is ∙ ap (λ (b : Bool). noted_as b (route_of core).spec.policy call) by.1
-          ∙ ap (λ (p : WriterPolicy). noted_as true p call) by.0);
+      needed = made.needed;
+      others = made.others;
+      works = subst (λ (b : Bool). WorksOn means helps (IsQuiet means) (begins_one call) (route_of before.core)
+          before.helper before.table before.core.seat b behind.helper behind.table behind.core.seat) by.1 asked.works;
+      notes = asked.notes ∙ ap (λ (cs : List Call). (view_at means before).calls ++ cs)
+          (ap (λ (b : Bool). noted_as b (route_of before.core).spec.policy call) by.1 ∙ ap (λ (p : WriterPolicy). noted_as true p call) by.0);
     }
 
 -- a call that asks for none
-pub quiet_called : {H T W S : Type 0} (means : Meaning T W S) (needs : H → T → Type 0) (helps : H → T → ℕ → Bool → H → T → Type 0)
-    (call : Call) (helper : H) (old : T) (core : WriterCore W) (new : T) (after : WriterCore W)
-    → IsQuiet means old core.seat new after.seat → CoreAgrees (means.setup old) (means.place core.seat) (means.view new after.seat) after → is_stalled after ≡ false
-    → needs helper new → (means.view new after.seat).calls ≡ (means.view old core.seat).calls ++ noted_as false (route_of core).spec.policy call
+pub quiet_called : {H T W S : Type 0} {means : Meaning T W S} (needs : H → T → Type 0) (helps : H → T → ℕ → Bool → H → T → Type 0)
+    {call : Call} (helper : H) {old : T} {core : WriterCore W} {new : T} {after : WriterCore W} → NotesCall means call old core new after
+    → is_stalled core ≡ false → needs helper new → call ∷ [] ≡ noted_as false (route_of core).spec.policy call
     → IsCalled means needs helps call helper old core helper new after
-quiet_called means needs helps call helper old core new after quiet agrees going needed notes = record {
-  agrees = agrees;
-  going = going;
-  needed = needed;
-  others = record {
-    setup_stays = quiet.step.setup_stays;
-    seat_stays = quiet.step.seat_stays;
-    place_stays = quiet.step.place_stays;
-    writers_stay = quiet.step.writers_stay;
-    letters_stay = quiet.step.letters_stay;
-  };
-  stopped = false;
-  drops = λ never. absurd (let wrong : false ≡ true = never in cc);
-  lost = λ never. absurd (let wrong : false ≡ true = never in cc);
-  asks = inr (refl, quiet);
-  works = Done helper old core.seat new after.seat quiet;
-  notes = notes;
-}
+quiet_called {means = means} needs helps helper {old} {core} {new} {after} made going needed is =
+    let quiet = made.quiet in
+    record {
+      agrees = made.agrees;
+      going = made.goes ∙ going;
+      needed = needed;
+      others = record {
+        setup_stays = quiet.step.setup_stays;
+        seat_stays = quiet.step.seat_stays;
+        place_stays = quiet.step.place_stays;
+        writers_stay = quiet.step.writers_stay;
+        letters_stay = quiet.step.letters_stay;
+      };
+      stopped = false;
+      drops = λ never. absurd (let wrong : false ≡ true = never in cc);
+      lost = λ never. absurd (let wrong : false ≡ true = never in cc);
+      asks = inr (refl, quiet);
+      works = Done helper old core.seat new after.seat quiet;
+      notes = made.notes going ∙ ap (λ (cs : List Call). (means.view old core.seat).calls ++ cs) is;
+    }
 
 -- There are ids enough for a packet that is to come.
 pub ids_enough : (setup : Setup) (place : ℕ) (view : WriterView) (writer : Writer) (coming : List Call) → WriterAgrees setup place view writer

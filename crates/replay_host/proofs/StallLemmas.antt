@@ -16,6 +16,7 @@ use Rattle.chunk_plain.specs.Views.{WriterView, ServiceView, newcomer}
 use Rattle.chunk_plain.specs.World.{World, Unclaimed, status, writer}
 use Rattle.trace_writer.specs.declared.route.Route.{Route}
 use Rattle.trace_writer.specs.declared.writer.WriterCore.{WriterCore}
+use Rattle.trace_writer.specs.Asked.{begins_one, noted_as}
 use Rattle.trace_writer.specs.Core.{CoreAgrees, route_of}
 use Rattle.trace_writer.specs.Helping.{LeavesWriters, Works, Done, Silent, Gets, Helped, Refused, Lost, Tried, GivesUp}
 use Rattle.trace_writer.specs.OwnSteps.{KeepsChunks, NoneHeld, IsQuiet, IsSilent, GetsChunk, IsVainTry, IsOutNow}
@@ -26,7 +27,7 @@ use Rattle.replay_model.specs.Does as acts
 use Rattle.replay_model.specs.Does.{LeavesRest, GoesRound, MayNeedChunk, IsOut, Collects, policy_of}
 use Rattle.replay_model.proofs.StandsLemmas.{works_others}
 use Rattle.replay_host.specs.declared.helper.Collecting.{Collecting}
-use Rattle.replay_host.specs.Asking.{IsStalledCall, KeepsService, begins_one, noted_as}
+use Rattle.replay_host.specs.Asking.{IsStalledCall, KeepsService}
 use Rattle.replay_host.specs.Helping.{MayHelp, Helps}
 use Rattle.replay_host.specs.Standing.{IsSeated, Stands}
 use Rattle.replay_host.specs.Stopping.{StallsIn}

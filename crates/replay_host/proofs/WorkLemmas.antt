@@ -10,6 +10,7 @@ use Rattle.chunk_plain.specs.Views.{Ask, BegunChunk, WriterView, ServiceView, fr
 use Rattle.chunk_plain.specs.Meaning.{Meaning, IsWriterStep}
 use Rattle.chunk_plain.specs.World.{World, Unclaimed, status, writer}
 use Rattle.trace_writer.specs.declared.route.Route.{Route}
+use Rattle.trace_writer.specs.Asked.{begins_one}
 use Rattle.trace_writer.specs.Claims.{AreOwnChunks, KeepsClaims}
 use Rattle.trace_writer.specs.Helping.{LeavesWriters, refuses, loses, Tries, Gains, Again, Ends, Works, Done, Silent, Gets, Helped, Refused, Lost, Tried, GivesUp}
 use Rattle.trace_writer.specs.OwnSteps.{KeepsChunks, NoneHeld, IsQuiet, IsSilent, GetsChunk, IsInVain, IsVainTry, IsOutNow}
@@ -19,7 +20,6 @@ use Rattle.replay_model.specs.Does as acts
 use Rattle.replay_model.specs.Does.{LeavesRest, GoesRound, HasNoFreeChunk, MayNeedChunk, IsVainIn, IsOut, policy_of, asks_for, HoldsNoneAt, AreOpen, Collects}
 use Rattle.replay_model.proofs.ShutLemmas.{open_is}
 use Rattle.replay_host.specs.declared.helper.Collecting.{Collecting}
-use Rattle.replay_host.specs.Asking.{begins_one}
 use Rattle.replay_host.specs.Helping.{Helps, Collected}
 use Rattle.trace_writer.proofs.claims.KeepingClaims.{chunks_kept, chunks_more}
 use Rattle.service_core.proofs.AnswerLemmas.{takes_something}

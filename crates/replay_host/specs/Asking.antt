@@ -1,9 +1,8 @@
 -- What it takes to ask a writer for a call, and what that does.
 use Rattle.std.specs.Prelude.{◌≡◌, ℕ, ◌+◌, ◌≤◌, ◌⊎◌, ◌==◌, Bool, true, false, List, ◌∷◌, ◌++◌, length, Some, slice_get, if◌then◌else◌}
 use Rattle.trace_base.specs.declared.limits.TheConstants.{MAX_INPUT}
-use Rattle.trace_base.specs.declared.policy.WriterPolicy.{WriterPolicy}
 use Rattle.trace_base.specs.declared.policy.WriterPolicy.TheVariants.{Stalls}
-use Rattle.trace_model.specs.Calls.{Call, Begun, Bytes}
+use Rattle.trace_model.specs.Calls.{Call, Bytes}
 use Rattle.trace_model.specs.Enough.{most_chunks}
 use Rattle.trace_model.specs.Buffers.{Buffer}
 use Rattle.trace_model.specs.History.{records_after}
@@ -19,11 +18,11 @@ use Rattle.chunk_plain.specs.World.{World}
 use Rattle.world_model.specs.FirstBuffers.{payload_at}
 use Rattle.trace_writer.specs.declared.ids.TheConstants.{PACKET_IDS}
 use Rattle.trace_writer.specs.declared.writer.WriterCore.{WriterCore}
-use Rattle.trace_writer.specs.Asked.{begun_as, written_as}
+use Rattle.trace_writer.specs.Asked.{begins_one, noted_as}
 use Rattle.trace_writer.specs.Core.{CoreAgrees, is_stalled, route_of}
-use Rattle.trace_writer.specs.Helping.{LeavesOthers, LeavesWriters, Works, loses, rounds_for}
+use Rattle.trace_writer.specs.Helping.{LeavesOthers, WorksOn, loses, rounds_for}
 use Rattle.trace_writer.specs.Losing.{LosesBehind}
-use Rattle.trace_writer.specs.OwnSteps.{IsQuiet, IsSilent, GetsChunk, IsVainTry, IsOutNow}
+use Rattle.trace_writer.specs.OwnSteps.{IsQuiet}
 use Rattle.service_core.specs.declared.service.ServiceCore.{ServiceCore}
 use Rattle.service_core.specs.Agreement.{KeepsRest}
 use Rattle.replay_model.specs.Does.{MayNeedChunk, Asks}
@@ -55,16 +54,6 @@ AreReady {T} {W} means table cores coming = (place : ℕ) (core : WriterCore W) 
 
 -- ---- what it does
 
--- whether the call begins a packet
-abbrev pub begins_one : Call → Bool
-begins_one (Begun kept) = true
-begins_one call = false
-
--- what is noted of a call, where its writer stops since no chunk is to be had, and else
-abbrev pub noted_as : Bool → WriterPolicy → Call → List Call
-noted_as stopped policy (Begun kept) = begun_as stopped policy
-noted_as stopped policy call = written_as stopped policy call
-
 -- A call of a writer over any helper, after which it goes on: what it did, and that it noted the call, or that the packet was lost behind
 -- its rounds of claims in vain. In a call that needs no chunk it asked for none, and for no help.
 pub record IsCalled {H T W S : Type 0} (means : Meaning T W S) (needs : H → T → Type 0) (helps : H → T → ℕ → Bool → H → T → Type 0)
@@ -78,8 +67,7 @@ pub record IsCalled {H T W S : Type 0} (means : Meaning T W S) (needs : H → T 
   pub lost : stopped ≡ true → LosesBehind (means.setup old) (range_in (route_of core).arbiter) (rounds_for (route_of core).spec.policy)
       (means.view old core.seat) (means.view new after.seat)
   pub asks : MayNeedChunk call ⊎ ((stopped ≡ false) × IsQuiet means old core.seat new after.seat)
-  pub works : Works (route_of core).spec.policy (IsSilent means) (IsQuiet means) (GetsChunk means (route_of core)) (IsVainTry means (route_of core) (begins_one call)) (IsOutNow means (route_of core))
-      (λ asked table answer behind freed. helps asked table (route_of core).spec.producer answer behind freed × LeavesWriters means table freed)
+  pub works : WorksOn means helps (IsQuiet means) (begins_one call) (route_of core)
       helper old core.seat stopped left new after.seat
   pub notes : (means.view new after.seat).calls ≡ (means.view old core.seat).calls ++ noted_as stopped (route_of core).spec.policy call
 
@@ -93,8 +81,7 @@ pub record IsStalledCall {H T W S : Type 0} (means : Meaning T W S) (needs : H �
   pub halted : is_stalled after ≡ true
   pub needed : needs left new
   pub others : LeavesOthers means old core.seat new after.seat
-  pub works : Works (route_of core).spec.policy (IsSilent means) (IsQuiet means) (GetsChunk means (route_of core)) (IsVainTry means (route_of core) (begins_one call)) (IsOutNow means (route_of core))
-      (λ asked table answer behind freed. helps asked table (route_of core).spec.producer answer behind freed × LeavesWriters means table freed)
+  pub works : WorksOn means helps (IsQuiet means) (begins_one call) (route_of core)
       helper old core.seat true left new after.seat
   pub notes : (means.view new after.seat).calls ≡ (means.view old core.seat).calls ++ noted_as true Stalls call
 

@@ -15,6 +15,7 @@ use Rattle.chunk_plain.specs.Steps.{serviced}
 use Rattle.chunk_plain.specs.Views.{Draft, ServiceView}
 use Rattle.chunk_plain.specs.World.{World, Writing, status, writer}
 use Rattle.trace_writer.specs.declared.writer.WriterCore.{WriterCore}
+use Rattle.trace_writer.specs.Asked.{noted_as}
 use Rattle.service_core.specs.Agreement.{first_of}
 use Rattle.service_core.specs.Reading.{reads_in, noted_read, FailsAmong, read_moment}
 use Rattle.service_core.specs.Taking.{noted_more}
@@ -25,7 +26,7 @@ use Rattle.replay_model.specs.Plays.{Plays}
 use Rattle.replay_host.specs.declared.fault.HostFault.{HostFault}
 use Rattle.replay_host.specs.declared.fault.HostFault.TheVariants.{WriteFault, Stalled}
 use Rattle.replay_host.specs.declared.host.Host.{Host}
-use Rattle.replay_host.specs.Asking.{KeepsService, noted_as}
+use Rattle.replay_host.specs.Asking.{KeepsService}
 use Rattle.replay_host.specs.Playing.{IsTraceOf, KeepsBooks}
 
 -- ---- a writer that stalls

@@ -5,10 +5,9 @@ use Rattle.trace_base.specs.declared.policy.WriterPolicy.{WriterPolicy}
 use Rattle.trace_base.specs.declared.policy.WriterPolicy.TheVariants.{Drops, Stalls, StallsThenDrops}
 use Rattle.trace_model.specs.Calls.{Call, Begun, Number, Bytes, Nested, Ended, GivenUp, Finished, Flushed}
 use Rattle.trace_model.specs.Packets.{Packet}
-use Rattle.trace_writer.specs.Asked.{begun_as}
+use Rattle.trace_writer.specs.Asked.{begun_as, noted_as}
 use Rattle.trace_writer.specs.Helping.{loses}
 use Rattle.scenario_text.specs.Accepted.{Accepts}
-use Rattle.replay_host.specs.Asking.{noted_as}
 use Rattle.run_model.specs.Noted.{done_calls}
 
 done_append : (xs ys : List Call) → done_calls (xs ++ ys) ≡ done_calls xs ++ done_calls ys

@@ -23,7 +23,7 @@ use Rattle.chunk_words.specs.Sits.{setup_in, known_by}
 use Rattle.world_model.specs.FirstBuffers.{payload_at}
 use Rattle.claim_arbiter.specs.Claiming.{range_in}
 use Rattle.trace_writer.specs.declared.writer.WriterCore.{WriterCore}
-use Rattle.trace_writer.specs.Asked.{begun_as}
+use Rattle.trace_writer.specs.Asked.{begun_as, noted_as}
 use Rattle.trace_writer.specs.Core.{CoreAgrees, WriterAgrees, route_of}
 use Rattle.trace_writer.specs.Helping.{LeavesWriters, Works, Done, Silent, Gets, Helped, Refused, Lost, Tried, GivesUp, loses, rounds_for}
 use Rattle.trace_writer.specs.Losing.{LosesBehind}
@@ -31,7 +31,7 @@ use Rattle.trace_writer.proofs.accounts.Possible.{begin_loses, field_loses, more
 use Rattle.service_core.specs.Agreement.{spec_at}
 use Rattle.schedule_laws.specs.Resting.{IsBetweenCalls}
 use Rattle.replay_model.specs.Does.{asks_for}
-use Rattle.replay_host.specs.Asking.{IsReadyFor, IsCalled, IsStalledCall, noted_as}
+use Rattle.replay_host.specs.Asking.{IsReadyFor, IsCalled, IsStalledCall}
 use Rattle.trace_writer.specs.Answered.{KeepsCompleted}
 use Rattle.trace_writer.proofs.holding.Answering.{works_keep_completed}
 use Rattle.replay_host.proofs.AskedLemmas.{route_is}

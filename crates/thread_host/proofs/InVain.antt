@@ -19,10 +19,10 @@ use Rattle.chunk_words.specs.contracts.shared.SharedWords.TheImpl.{ghosts as sha
 use Rattle.chunk_words.specs.Sits.{known_by}
 use Rattle.claim_arbiter.specs.Claiming.{ClaimsInTurn, lost_asks}
 use Rattle.trace_writer.specs.declared.route.Route.{Route}
+use Rattle.trace_writer.specs.Asked.{noted_as}
 use Rattle.trace_writer.specs.Helping.{LeavesWriters, Tries, Gains, Again, Ends, Works, Done, Silent, Gets, Helped, Refused, Lost, Tried, GivesUp, loses, rounds_for}
 use Rattle.trace_writer.specs.Losing.{LosesBehind}
 use Rattle.trace_writer.specs.OwnSteps.{KeepsChunks, IsQuiet, IsSilent, GetsChunk, IsVainTry, IsOutNow}
-use Rattle.replay_host.specs.Asking.{noted_as}
 use Rattle.run_model.specs.Vain.{GoesOnInTurn, EndsInVain, HasVainRounds, LosesInVain}
 use Rattle.run_model.proofs.InTurnLemmas.{won_append, lost_won, goes_none, goes_both}
 use Rattle.service_core.specs.Agreement.{spec_at}

@@ -18,14 +18,14 @@ use Rattle.trace_writer.specs.declared.fault.CallFault.{CallFault}
 use Rattle.trace_writer.specs.declared.fault.CallFault.TheVariants.{Stalled}
 use Rattle.trace_writer.specs.declared.route.Route.{Route}
 use Rattle.trace_writer.specs.declared.writer.WriterCore.{WriterCore}
-use Rattle.trace_writer.specs.Asked.{begun_as, written_as, stops_with}
+use Rattle.trace_writer.specs.Asked.{begun_as, written_as, noted_as, stops_with}
+use Rattle.trace_writer.specs.Calling.{packet_fault, fault_at}
 use Rattle.trace_writer.specs.Core.{is_stalled, route_of, refusal_of}
 use Rattle.trace_writer.specs.Helping.{loses, rounds_for}
 use Rattle.trace_writer.specs.Laws.{DropsNeverStall}
 use Rattle.trace_writer.specs.Losing.{LosesBehind}
-use Rattle.thread_writer.specs.declared.helper.Asks.{Asks}
 use Rattle.thread_writer.specs.declared.writer.TraceWriter.{TraceWriter}
-use Rattle.thread_writer.specs.Writing.{core_of, view_in, Writes, IsCall, IsQuietCall}
+use Rattle.thread_writer.specs.Writing.{core_of, view_in, Writes, IsCall, IsQuietCall, Caller, moment_on}
 use Rattle.tracesmb_c.specs.declared.writer.OwnedWriter.{OwnedWriter}
 use Rattle.tracesmb_c.specs.declared.codes.TheConstants.{OK, REFUSED}
 use Rattle.tracesmb_c.specs.Lending.{field_answer, table_of, view_of, IsReady, IsOutOfChunks, Notes, NotesField, Stays, noted_begin}
@@ -82,50 +82,51 @@ reason_never : {A : Type 0} (new : WriterCore WriterSeat) (answer : Result A Cal
 reason_never new (Ok a) on matched = refl
 reason_never new (Err fault) on matched = let wrong : false ≡ true = sym on ∙ matched.1 in cc
 
-module _ {A H : Type 0} {helps : H → ℕ → Bool → H → Type 0} {of_table : H → TableId
-    → Type 0} {table : Shared} {old new : WriterCore WriterSeat}
-    {help left : Asks H} {steps later : ℕ} {begins stopped : Bool} {noted : List Call} where
+module _ {A H : Type 0} {helps : H → ℕ → Bool → H → Type 0} {of_table : H → TableId → Type 0} {call : Call} {stopped : Bool} {table : Shared}
+    {before after : Caller H} where
   -- the place stays
-  pub place_stays : {answer : Result A CallFault} {reason : Option CallFault}
-      → IsCall helps of_table table old new help left steps later answer reason begins stopped noted
-      → (route_of old).spec.policy ≡ Drops → new.seat.place ≡ old.seat.place
-  place_stays call drops = (call.alone drops).1.place_stays
+  pub place_stays : {answer : Result A CallFault} → IsCall helps of_table call stopped table before answer after
+      → (route_of (core_of before.writer)).spec.policy ≡ Drops → (core_of after.writer).seat.place ≡ (core_of before.writer).seat.place
+  place_stays did drops = (did.made.alone drops).1.place_stays
 
   -- what was noted where it wasn't refused
-  pub noted_if_ok : (answer : Result A CallFault) (reason : Option CallFault)
-      → IsCall helps of_table table old new help left steps later answer reason begins stopped noted
-      → is_stalled old ≡ false → IfOk answer (λ _. (known_by new.seat).calls ≡ (known_by old.seat).calls ++ noted)
-  noted_if_ok answer (Some fault) call going =
-      subst (λ (r : Result A CallFault). IfOk r (λ _. (known_by new.seat).calls ≡ (known_by old.seat).calls ++ noted))
-      (sym (call.refused fault refl).answer_is) tt
-  noted_if_ok answer None call going = if_ok answer (call.done (none_refused old going)).notes
+  pub noted_if_ok : (answer : Result A CallFault) (reason : Option CallFault) → packet_fault (view_in before.writer) call ≡ reason
+      → IsCall helps of_table call stopped table before answer after → is_stalled (core_of before.writer) ≡ false
+      → IfOk answer (λ _. (view_in after.writer).calls ≡ (view_in before.writer).calls ++ noted_as stopped (route_of (core_of before.writer)).spec.policy call)
+  noted_if_ok answer (Some fault) is did going =
+      subst (λ (r : Result A CallFault). IfOk r (λ _. (view_in after.writer).calls
+      ≡ (view_in before.writer).calls ++ noted_as stopped (route_of (core_of before.writer)).spec.policy call))
+      (sym (did.made.refused fault (ap (refusal_of (core_of before.writer)) is)).answer_is) tt
+  noted_if_ok answer None is did going =
+      if_ok answer (did.made.done (ap (refusal_of (core_of before.writer)) is ∙ none_refused (core_of before.writer) going)).notes
 
   -- and nothing where it was
-  pub same_if_refused : (answer : Result A CallFault) (reason : Option CallFault)
-      → IsCall helps of_table table old new help left steps later answer reason begins stopped noted
-      → is_stalled old ≡ false → is_stalled new ≡ false → OnErr answer ((known_by new.seat).calls ≡ (known_by old.seat).calls)
-  same_if_refused answer (Some fault) call going on =
-      on_err answer (ap (λ (w : WriterCore WriterSeat). (known_by w.seat).calls) (call.refused fault refl).writer_stays)
-  same_if_refused answer None call going on = err_never _ new answer on (call.answers (none_refused old going))
+  pub same_if_refused : (answer : Result A CallFault) (reason : Option CallFault) → packet_fault (view_in before.writer) call ≡ reason
+      → IsCall helps of_table call stopped table before answer after → is_stalled (core_of before.writer) ≡ false → is_stalled (core_of after.writer) ≡ false
+      → OnErr answer ((view_in after.writer).calls ≡ (view_in before.writer).calls)
+  same_if_refused answer (Some fault) is did going on =
+      on_err answer (ap (λ (w : WriterCore WriterSeat). (known_by w.seat).calls) (did.made.refused fault (ap (refusal_of (core_of before.writer)) is)).writer_stays)
+  same_if_refused answer None is did going on =
+      err_never _ (core_of after.writer) answer on (did.made.answers (ap (refusal_of (core_of before.writer)) is ∙ none_refused (core_of before.writer) going))
 
   -- it is refused exactly for its packet's reason
-  pub reason_is : (answer : Result A CallFault) (reason : Option CallFault)
-      → IsCall helps of_table table old new help left steps later answer reason begins stopped noted
-      → is_stalled old ≡ false → is_stalled new ≡ false → MatchResult answer (λ _. reason ≡ None) (λ fault. reason ≡ Some fault)
-  reason_is answer (Some fault) call going on =
+  pub reason_is : (answer : Result A CallFault) (reason : Option CallFault) → packet_fault (view_in before.writer) call ≡ reason
+      → IsCall helps of_table call stopped table before answer after → is_stalled (core_of before.writer) ≡ false → is_stalled (core_of after.writer) ≡ false
+      → MatchResult answer (λ _. reason ≡ None) (λ fault. reason ≡ Some fault)
+  reason_is answer (Some fault) is did going on =
       subst (λ (r : Result A CallFault). MatchResult r (λ _. Some fault ≡ None) (λ f. Some fault ≡ Some f))
-      (sym (call.refused fault refl).answer_is) refl
-  reason_is answer None call going on = reason_never new answer on (call.answers (none_refused old going))
+      (sym (did.made.refused fault (ap (refusal_of (core_of before.writer)) is)).answer_is) refl
+  reason_is answer None is did going on =
+      reason_never (core_of after.writer) answer on (did.made.answers (ap (refusal_of (core_of before.writer)) is ∙ none_refused (core_of before.writer) going))
 
   -- its last claims were one round in vain, where it stopped
-  pub lost_behind : {answer : Result A CallFault} {reason : Option CallFault}
-      → IsCall helps of_table table old new help left steps later answer reason begins stopped noted
-      → refusal_of old reason ≡ None → (route_of old).spec.policy ≡ Drops → stopped ≡ true
-      → LosesBehind (shared.means.setup table) (range_in (route_of old).arbiter) 1 (known_by old.seat) (known_by new.seat)
-  lost_behind call goes_on drops stops =
-      subst (λ (p : WriterPolicy). LosesBehind (shared.means.setup table) (range_in (route_of old).arbiter) (rounds_for p)
-      (known_by old.seat) (known_by new.seat)) drops
-      ((call.done goes_on).lost stops (ap (λ (p : WriterPolicy). loses p) drops))
+  pub lost_behind : {answer : Result A CallFault} → IsCall helps of_table call stopped table before answer after
+      → fault_at shared.means call (moment_on table before) ≡ None → (route_of (core_of before.writer)).spec.policy ≡ Drops → stopped ≡ true
+      → LosesBehind (shared.means.setup table) (range_in (route_of (core_of before.writer)).arbiter) 1 (view_in before.writer) (view_in after.writer)
+  lost_behind did goes_on drops stops =
+      subst (λ (p : WriterPolicy). LosesBehind (shared.means.setup table) (range_in (route_of (core_of before.writer)).arbiter) (rounds_for p)
+      (view_in before.writer) (view_in after.writer)) drops
+      ((did.made.done goes_on).lost stops (ap (λ (p : WriterPolicy). loses p) drops))
 
 -- ---- of a writer that is lent
 

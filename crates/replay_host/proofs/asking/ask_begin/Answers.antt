@@ -14,12 +14,10 @@ begin-requires-clause-ids g c =
 
 pub returns-in-Ok-clause-called : goal.returns-in-Ok-clause-called
 returns-in-Ok-clause-called g c = λ _.
-    let none = none_refused c.args.core.now refl c.requires.going in
-    asked_called g.W.Words.means g.H.HelperOn.needs g.H.HelperOn.helps (Begun true) c.args.help.now c.args.table.now c.args.core.now c.args.steps.now _
-    _ c.begin.new.help c.begin.new.table c.begin.new.self c.begin.new.steps tt (c.in-Ok.ensures.done none) c.in-Ok.ensures.agrees (c.in-Ok.ensures.answers none) refl
+    let none = none_refused c.args.core.now refl c.requires.going in let made = c.in-Ok.ensures.call in
+    asked_called (Begun true) tt made none (made.answers none)
 
 pub returns-in-Err-clause-stalled : goal.returns-in-Err-clause-stalled
 returns-in-Err-clause-stalled g c = λ _.
-    let none = none_refused c.args.core.now refl c.requires.going in
-    asked_stalled g.W.Words.means g.H.HelperOn.needs g.H.HelperOn.helps (Begun true) c.args.help.now c.args.table.now c.args.core.now c.args.steps.now true
-    _ c.begin.new.help c.begin.new.table c.begin.new.self c.begin.new.steps tt (c.in-Err.ensures.done none) c.in-Err.ensures.agrees (c.in-Err.ensures.answers none).1 refl
+    let none = none_refused c.args.core.now refl c.requires.going in let made = c.in-Err.ensures.call in
+    asked_stalled (Begun true) tt made none (made.answers none).1

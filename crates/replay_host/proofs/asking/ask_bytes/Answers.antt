@@ -1,5 +1,4 @@
 -- A text is accepted.
-use Rattle.std.proofs.Common.{refl}
 use Rattle.trace_model.specs.Calls.{Bytes}
 use Rattle.trace_writer.specs.Core.{bytes_size}
 use Rattle.replay_host.proofs.CallLemmas.{asked_called, asked_stalled, none_refused}
@@ -12,13 +11,11 @@ bytes-requires-clause-begun g c = writing_is c.requires.ready.1.asked (g.W.Words
 pub returns-in-Ok-clause-called : goal.returns-in-Ok-clause-called
 returns-in-Ok-clause-called g c = λ _.
     let none = none_refused c.args.core.now (field_accepted c.requires.ready.1.asked (g.W.Words.means.view c.args.table.now c.args.core.now.seat) c.requires.ready.1.loses c.args.field (bytes_size c.args.field c.args.times c.args.text.now) c.requires.ready.1.accepted.0) c.requires.going in
-    let done = c.in-Ok.ensures.done none in
-    asked_called g.W.Words.means g.H.HelperOn.needs g.H.HelperOn.helps (Bytes c.args.field c.args.text.now c.args.times) c.args.help.now c.args.table.now c.args.core.now c.args.steps.now done.0
-    _ c.bytes.new.help c.bytes.new.table c.bytes.new.self c.bytes.new.steps tt done.1 c.in-Ok.ensures.agrees (c.in-Ok.ensures.answers none) refl
+    let made = c.in-Ok.ensures.call.1 in
+    asked_called (Bytes c.args.field c.args.text.now c.args.times) tt made none (made.answers none)
 
 pub returns-in-Err-clause-stalled : goal.returns-in-Err-clause-stalled
 returns-in-Err-clause-stalled g c = λ _.
     let none = none_refused c.args.core.now (field_accepted c.requires.ready.1.asked (g.W.Words.means.view c.args.table.now c.args.core.now.seat) c.requires.ready.1.loses c.args.field (bytes_size c.args.field c.args.times c.args.text.now) c.requires.ready.1.accepted.0) c.requires.going in
-    let done = c.in-Err.ensures.done none in
-    asked_stalled g.W.Words.means g.H.HelperOn.needs g.H.HelperOn.helps (Bytes c.args.field c.args.text.now c.args.times) c.args.help.now c.args.table.now c.args.core.now c.args.steps.now done.0
-    _ c.bytes.new.help c.bytes.new.table c.bytes.new.self c.bytes.new.steps tt done.1 c.in-Err.ensures.agrees (c.in-Err.ensures.answers none).1 refl
+    let made = c.in-Err.ensures.call.1 in
+    asked_stalled (Bytes c.args.field c.args.text.now c.args.times) tt made none (made.answers none).1

@@ -1,6 +1,5 @@
 -- A message ends that is open.
-use Rattle.std.proofs.Common.{◌∙◌}
-use Rattle.trace_model.specs.Calls.{Ended}
+use Rattle.std.proofs.Common.{refl}
 use Rattle.replay_host.proofs.CallLemmas.{quiet_called}
 use Rattle.replay_host.proofs.ReadyLemmas.{deep_here}
 use Rattle.replay_host.proofs.asking.ask_ended.Goals as goal
@@ -10,10 +9,8 @@ end_nested-requires-clause-depth g c = deep_here c.requires.ready.1.asked (g.W.W
 
 pub returns : goal.returns
 returns g c =
-    let quiet = c.end_nested.ensures.quiet in
+    let made = c.end_nested.ensures.call in
     record {
-      called = quiet_called g.W.Words.means g.H.HelperOn.needs g.H.HelperOn.helps Ended c.args.help.now c.args.table.now c.args.core.now c.end_nested.new.table c.end_nested.new.self
-          quiet c.end_nested.ensures.agrees (c.end_nested.ensures.goes ∙ c.requires.going)
-          (g.met.H.HelperOn.needs_stay c.args.help.now c.args.table.now c.end_nested.new.table c.args.core.now.seat c.end_nested.new.self.seat quiet.step c.requires.needs)
-          (c.end_nested.ensures.notes c.requires.going);
+      called = quiet_called g.H.HelperOn.needs g.H.HelperOn.helps c.args.help.now made c.requires.going
+          (g.met.H.HelperOn.needs_stay c.args.help.now c.args.table.now c.end_nested.new.table c.args.core.now.seat c.end_nested.new.self.seat made.quiet.step c.requires.needs) refl;
     }

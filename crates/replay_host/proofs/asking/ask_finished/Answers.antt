@@ -1,6 +1,5 @@
 -- A packet ends in which no message is open.
-use Rattle.std.proofs.Common.{◌∙◌}
-use Rattle.trace_model.specs.Calls.{Finished}
+use Rattle.std.proofs.Common.{refl}
 use Rattle.replay_host.proofs.CallLemmas.{quiet_called}
 use Rattle.replay_host.proofs.ReadyLemmas.{writing_is, shallow_here}
 use Rattle.replay_host.proofs.asking.ask_finished.Goals as goal
@@ -13,10 +12,8 @@ finish-requires-clause-depth g c = shallow_here c.requires.ready.1.asked (g.W.Wo
 
 pub returns : goal.returns
 returns g c =
-    let quiet = c.finish.ensures.quiet in
+    let made = c.finish.ensures.call in
     record {
-      called = quiet_called g.W.Words.means g.H.HelperOn.needs g.H.HelperOn.helps Finished c.args.help.now c.args.table.now c.args.core.now c.finish.new.table c.finish.new.self
-          quiet c.finish.ensures.agrees (c.finish.ensures.goes ∙ c.requires.going)
-          (g.met.H.HelperOn.needs_stay c.args.help.now c.args.table.now c.finish.new.table c.args.core.now.seat c.finish.new.self.seat quiet.step c.requires.needs)
-          (c.finish.ensures.notes c.requires.going);
+      called = quiet_called g.H.HelperOn.needs g.H.HelperOn.helps c.args.help.now made c.requires.going
+          (g.met.H.HelperOn.needs_stay c.args.help.now c.args.table.now c.finish.new.table c.args.core.now.seat c.finish.new.self.seat made.quiet.step c.requires.needs) refl;
     }

@@ -1,6 +1,5 @@
 -- A flush comes between packets.
-use Rattle.std.proofs.Common.{◌∙◌}
-use Rattle.trace_model.specs.Calls.{Flushed}
+use Rattle.std.proofs.Common.{refl}
 use Rattle.replay_host.proofs.CallLemmas.{quiet_called}
 use Rattle.replay_host.proofs.ReadyLemmas.{between_is}
 use Rattle.replay_host.proofs.asking.ask_flushed.Goals as goal
@@ -10,10 +9,8 @@ flush-requires-clause-none_begun g c = between_is c.requires.ready.1.asked (g.W.
 
 pub returns : goal.returns
 returns g c =
-    let quiet = c.flush.ensures.quiet in
+    let made = c.flush.ensures.call in
     record {
-      called = quiet_called g.W.Words.means g.H.HelperOn.needs g.H.HelperOn.helps Flushed c.args.help.now c.args.table.now c.args.core.now c.flush.new.table c.flush.new.self
-          quiet c.flush.ensures.agrees (c.flush.ensures.goes ∙ c.requires.going)
-          (g.met.H.HelperOn.needs_stay c.args.help.now c.args.table.now c.flush.new.table c.args.core.now.seat c.flush.new.self.seat quiet.step c.requires.needs)
-          (c.flush.ensures.notes c.requires.going);
+      called = quiet_called g.H.HelperOn.needs g.H.HelperOn.helps c.args.help.now made c.requires.going
+          (g.met.H.HelperOn.needs_stay c.args.help.now c.args.table.now c.flush.new.table c.args.core.now.seat c.flush.new.self.seat made.quiet.step c.requires.needs) refl;
     }

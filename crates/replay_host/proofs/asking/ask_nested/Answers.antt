@@ -1,5 +1,4 @@
 -- A nested message is accepted.
-use Rattle.std.proofs.Common.{refl}
 use Rattle.trace_model.specs.Calls.{Nested}
 use Rattle.replay_host.proofs.CallLemmas.{asked_called, asked_stalled, none_refused}
 use Rattle.replay_host.proofs.ReadyLemmas.{writing_is, nested_accepted}
@@ -11,13 +10,11 @@ begin_nested-requires-clause-begun g c = writing_is c.requires.ready.1.asked (g.
 pub returns-in-Ok-clause-called : goal.returns-in-Ok-clause-called
 returns-in-Ok-clause-called g c = λ _.
     let none = none_refused c.args.core.now (nested_accepted c.requires.ready.1.asked (g.W.Words.means.view c.args.table.now c.args.core.now.seat) c.requires.ready.1.loses c.args.field c.requires.ready.1.accepted.0.0 c.requires.ready.1.accepted.0.1) c.requires.going in
-    let done = c.in-Ok.ensures.done none in
-    asked_called g.W.Words.means g.H.HelperOn.needs g.H.HelperOn.helps (Nested c.args.field) c.args.help.now c.args.table.now c.args.core.now c.args.steps.now done.0
-    _ c.begin_nested.new.help c.begin_nested.new.table c.begin_nested.new.self c.begin_nested.new.steps tt done.1 c.in-Ok.ensures.agrees (c.in-Ok.ensures.answers none) refl
+    let made = c.in-Ok.ensures.call.1 in
+    asked_called (Nested c.args.field) tt made none (made.answers none)
 
 pub returns-in-Err-clause-stalled : goal.returns-in-Err-clause-stalled
 returns-in-Err-clause-stalled g c = λ _.
     let none = none_refused c.args.core.now (nested_accepted c.requires.ready.1.asked (g.W.Words.means.view c.args.table.now c.args.core.now.seat) c.requires.ready.1.loses c.args.field c.requires.ready.1.accepted.0.0 c.requires.ready.1.accepted.0.1) c.requires.going in
-    let done = c.in-Err.ensures.done none in
-    asked_stalled g.W.Words.means g.H.HelperOn.needs g.H.HelperOn.helps (Nested c.args.field) c.args.help.now c.args.table.now c.args.core.now c.args.steps.now done.0
-    _ c.begin_nested.new.help c.begin_nested.new.table c.begin_nested.new.self c.begin_nested.new.steps tt done.1 c.in-Err.ensures.agrees (c.in-Err.ensures.answers none).1 refl
+    let made = c.in-Err.ensures.call.1 in
+    asked_stalled (Nested c.args.field) tt made none (made.answers none).1

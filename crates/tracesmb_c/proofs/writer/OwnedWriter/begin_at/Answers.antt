@@ -1,4 +1,4 @@
-use Rattle.std.proofs.Common.{◌≡◌, ◌++◌, Some, None, Result, IfOk, MatchResult, subst}
+use Rattle.std.proofs.Common.{◌≡◌, ◌++◌, Some, None, Result, IfOk, MatchResult, refl, subst}
 use Rattle.trace_writer.specs.declared.fault.Begun.{Begun as BegunPacket}
 use Rattle.trace_writer.specs.declared.fault.CallFault.{CallFault}
 use Rattle.trace_writer.specs.Asked.{begun_as, stops_with}
@@ -13,19 +13,19 @@ pub unreachable-requires : goal.unreachable-requires
 unreachable-requires g c =
     let going = goes c.drops_never_stall.ensures c.args.self.now c.requires.ready in
     let again : IsReady (behind c.args.self.now c.begin.new.self) =
-    ready_again c.args.self.now c.deref.result.now c.begin.new.self c.requires.ready c.deref.ensures c.begin.ensures.writes
-    c.begin.ensures.call.route
+    ready_again c.args.self.now c.deref.result.now c.begin.new.self c.requires.ready c.deref.ensures c.begin.ensures.call.may_call.writes
+    c.begin.ensures.call.made.route
     (place_stays c.begin.ensures.call c.requires.ready.drops) in
     let on = goes c.drops_never_stall.ensures (behind c.args.self.now c.begin.new.self) again in
     let wrong : no_reason ≡ Some c.in_default.field-0 =
     subst (λ (r : Result BegunPacket CallFault). MatchResult r (λ _. no_reason ≡ None) (λ fault. no_reason ≡ Some fault)) c.in_default.is
-    (reason_is c.begin.result None c.begin.ensures.call going on) in
+    (reason_is c.begin.result None refl c.begin.ensures.call going on) in
     cc
 
 pub returns-clause-ready : goal.returns-clause-ready
 returns-clause-ready g c =
-    ready_again c.args.self.now c.deref.result.now c.begin.new.self c.requires.ready c.deref.ensures c.begin.ensures.writes
-    c.begin.ensures.call.route
+    ready_again c.args.self.now c.deref.result.now c.begin.new.self c.requires.ready c.deref.ensures c.begin.ensures.call.may_call.writes
+    c.begin.ensures.call.made.route
     (place_stays c.begin.ensures.call c.requires.ready.drops)
 
 pub returns-clause-notes : goal.returns-clause-notes
@@ -34,7 +34,7 @@ returns-clause-notes g c =
     begin_noted c.args.self.now c.begin.new.self c.in-Ok.begun c.requires.ready
     (subst (λ (r : Result BegunPacket CallFault). IfOk r (λ _. (view_in c.begin.new.self).calls
     ≡ (view_of c.args.self.now).calls ++ begun_as (stops_with r) (route_of (core_of c.args.self.now.writer)).spec.policy)) c.in-Ok.is
-    (noted_if_ok c.begin.result None c.begin.ensures.call going))
+    (noted_if_ok c.begin.result None refl c.begin.ensures.call going))
 
 pub returns-clause-reason : goal.returns-clause-reason
 returns-clause-reason g c = λ drops.
