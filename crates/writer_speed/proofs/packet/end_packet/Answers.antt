@@ -16,6 +16,6 @@ messages-preserved g c =
           c.args.table.now c.args.writer.now c.messages.table c.messages.writer c.end_nested.new.table c.end_nested.new.self c.messages.invariant.goes
           (goes_once g.W.Words.means
           c.messages.table c.messages.writer c.end_nested.new.table c.end_nested.new.self c.messages.invariant.goes.ready.drops
-          c.end_nested.ensures.route c.end_nested.ensures.agrees c.end_nested.ensures.quiet.step);
+          c.end_nested.ensures.call.route c.end_nested.ensures.call.agrees c.end_nested.ensures.call.quiet.step);
       inside = c.end_nested.ensures.in_packet;
     }
