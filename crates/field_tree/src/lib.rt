@@ -7,6 +7,7 @@
 #![tactic(auto)]
 
 mod act;
+mod adding;
 mod fault;
 mod fields;
 mod judge;

@@ -3,16 +3,15 @@ ghost use Rattle.std.specs.Prelude.{◌≡◌, ℕ, ◌+◌, ◌-◌, ◌/◌, �
 ghost use Rattle.field_tree.specs.Machine.{IsValid, IsBetween, settled, before_byte, applied, next, finish, nodes_or_column, beginning};
 ghost use Rattle.field_tree.specs.declared.mode.Mode.TheVariants.{Pairs};
 ghost use Rattle.field_tree.specs.Scanning.{RunsOver, ReadsPairs};
-ghost use Rattle.field_tree.specs.Views.{reading, text_read, AddsNode, AddsByte, AddsText, Takes, Keeps, Ends, GivesNodes, nodes_read};
+ghost use Rattle.field_tree.specs.Views.{reading, text_read, AddsByte, AddsText, Takes, Keeps, Ends, GivesNodes, nodes_read};
 ghost use Rattle.field_tree.specs.Surveys.{IsSurvey};
 
 use crate::act::{act, may_end, taken_back};
+use crate::adding::NUMBERS_ROOM;
 use crate::fault::{FieldError, FieldFault};
 use crate::mode::{Action, Mode};
-use crate::node::FieldNode;
 use crate::scan::{first_byte, first_four_pairs, first_pair};
-use crate::survey::{Survey, begin_len, number_len, text_len};
-use crate::written::{push_begin, push_end, push_number, push_text};
+use crate::survey::Survey;
 use std::alloc::{AllocError, Global};
 use std::mem;
 use trace_base::limits::MAX_INPUT;
@@ -22,9 +21,6 @@ use trace_base::limits::MAX_INPUT;
 const FIRST_CODE: usize = 256;
 
 const FIRST_BYTES: usize = 64;
-
-/// Room for a node's numbers is taken before they are written.
-const NUMBERS_ROOM: usize = 32;
 
 /// What was read so far of a text: the nodes as they are written, how many messages are open behind
 /// them, what is found of them, and the text that is being read.
@@ -122,112 +118,6 @@ impl Parser {
         self.depth = 0;
         self.found = Survey::new();
         self.text.clear();
-    }
-
-    /// Adds a number.
-    #[tactic(auto, unfolding(crate::specs::Judged::level), using(crate::proofs::ParserLemmas::node_shown))]
-    #[inline(never)]
-    pub fn push_number(&mut self, field: u32, value: u64) -> Result<(), AllocError>
-        requires kept { Keeps self.old }
-        requires between { text_read self.old ≡ [] }
-        requires depth { self.old.depth < usize.MAX }
-        ensures pushed { OnOk result (AddsNode (FieldNode.Number field value) [] self.old self.new) }
-        ensures kept { OnOk result (Keeps self.new) }
-    {
-        let len = push_number(&mut self.code, field, value)?;
-        let node = FieldNode::Number { field, value };
-        self.found
-            .add_node(self.depth, node, number_len(field, len));
-        Ok(())
-    }
-
-    /// Adds a text that was read whole.
-    #[tactic(auto, unfolding(crate::specs::Judged::level), using(crate::proofs::ParserLemmas::node_shown))]
-    #[inline(never)]
-    pub fn push_text(&mut self, field: u32, times: u32, text: &[u8]) -> Result<(), AllocError>
-        requires kept { Keeps self.old }
-        requires between { text_read self.old ≡ [] }
-        requires depth { self.old.depth < usize.MAX }
-        ensures pushed { OnOk result (AddsNode (FieldNode.Bytes field times) text.now self.old self.new) }
-        ensures kept { OnOk result (Keeps self.new) }
-    {
-        push_text(&mut self.code, field, times, text)?;
-        let node = FieldNode::Bytes { field, times };
-        self.found
-            .add_node(self.depth, node, text_len(field, times, text.len()));
-        Ok(())
-    }
-
-    /// Adds the text that was being read.
-    #[tactic(auto, unfolding(crate::specs::Judged::level), using(crate::proofs::ParserLemmas::node_shown))]
-    #[inline(always)]
-    fn push_kept(&mut self, field: u32, times: u32) -> Result<(), AllocError>
-        requires kept { Keeps self.old }
-        requires depth { self.old.depth < usize.MAX }
-        ensures pushed { OnOk result (AddsNode (FieldNode.Bytes field times) (text_read self.old) self.old self.new) }
-        ensures kept { OnOk result (Keeps self.new) }
-    {
-        push_text(&mut self.code, field, times, &self.text)?;
-        let node = FieldNode::Bytes { field, times };
-        self.found
-            .add_node(self.depth, node, text_len(field, times, self.text.len()));
-        self.text.clear();
-        Ok(())
-    }
-
-    /// Adds it once, as most texts stand: what follows from how often it stands is known here.
-    #[inline(never)]
-    pub fn push_once(&mut self, field: u32) -> Result<(), AllocError>
-        requires kept { Keeps self.old }
-        requires depth { self.old.depth < usize.MAX }
-        ensures pushed { OnOk result (AddsNode (FieldNode.Bytes field 1) (text_read self.old) self.old self.new) }
-        ensures kept { OnOk result (Keeps self.new) }
-    {
-        self.push_kept(field, 1)
-    }
-
-    /// Adds it so many times over.
-    #[inline(never)]
-    fn push_times(&mut self, field: u32, times: u32) -> Result<(), AllocError>
-        requires kept { Keeps self.old }
-        requires depth { self.old.depth < usize.MAX }
-        ensures pushed { OnOk result (AddsNode (FieldNode.Bytes field times) (text_read self.old) self.old self.new) }
-        ensures kept { OnOk result (Keeps self.new) }
-    {
-        self.push_kept(field, times)
-    }
-
-    /// Begins a nested message.
-    #[tactic(auto, unfolding(crate::specs::Judged::level), using(crate::proofs::ParserLemmas::node_shown))]
-    #[inline(never)]
-    pub fn push_begin(&mut self, field: u32) -> Result<(), AllocError>
-        requires kept { Keeps self.old }
-        requires between { text_read self.old ≡ [] }
-        requires depth { self.old.depth < usize.MAX }
-        ensures pushed { OnOk result (AddsNode (FieldNode.Begin field) [] self.old self.new) }
-        ensures kept { OnOk result (Keeps self.new) }
-    {
-        push_begin(&mut self.code, field)?;
-        let node = FieldNode::Begin { field };
-        self.found.add_node(self.depth, node, begin_len(field));
-        self.depth += 1;
-        Ok(())
-    }
-
-    /// Ends one.
-    #[tactic(auto, unfolding(crate::specs::Judged::level), using(crate::proofs::ParserLemmas::node_shown))]
-    #[inline(never)]
-    pub fn push_end(&mut self) -> Result<(), AllocError>
-        requires kept { Keeps self.old }
-        requires between { text_read self.old ≡ [] }
-        requires depth { self.old.depth < usize.MAX }
-        ensures pushed { OnOk result (AddsNode FieldNode.End [] self.old self.new) }
-        ensures kept { OnOk result (Keeps self.new) }
-    {
-        push_end(&mut self.code)?;
-        self.found.add_node(self.depth, FieldNode::End, 0);
-        self.depth = self.depth.saturating_sub(1);
-        Ok(())
     }
 
     /// Adds a byte to the text that is being read.

@@ -1,7 +1,7 @@
 //! Nodes with their texts as bytes, one behind another: a node's field and kind in one number, and then
 //! its value, or how often its text stands, the text's length and the text. So a node mostly takes few
 //! bytes, and many nodes take memory once.
-ghost use Rattle.std.specs.Prelude.{◌≡◌, ℕ, ◌+◌, ◌^◌, ◌<◌, ◌≤◌, List, [], ◌++◌, length, vec_len, vec_capacity, IfOk, OnOk};
+ghost use Rattle.std.specs.Prelude.{◌≡◌, ℕ, ◌+◌, ◌*◌, ◌^◌, ◌<◌, ◌≤◌, List, [], ◌∷◌, ◌++◌, length, vec_len, vec_capacity, OnOk};
 ghost use Rattle.wire_varint.specs.Varint.{varint};
 ghost use Rattle.field_tree.specs.Nodes.{Shown};
 ghost use Rattle.field_tree.specs.Written.{written_node, IsWritable, IsFirst};
@@ -15,7 +15,7 @@ const NUMBER_LEN: usize = 10;
 
 /// Appends a number of more than two bytes, for which there is room.
 #[tactic(auto, unfolding(wire_varint::specs::Varint::varint, wire_varint::specs::Varint::groups))]
-#[inline(never)]
+#[inline(always)]
 fn put_long(code: &mut Vec<u8>, number: u64)
     requires long { 16384 ≤ number }
     requires room { vec_len code.old + NUMBER_LEN ≤ vec_capacity code.old }
@@ -62,19 +62,32 @@ fn put_number(code: &mut Vec<u8>, number: u64)
     put_long(code, number);
 }
 
-/// Appends a number's node, and answers how many bytes its value has.
+/// Appends a number's node, for which there is room, and answers how many bytes its value has.
 #[tactic(auto, unfolding(crate::specs::Written::written_node))]
 #[inline(always)]
-pub(crate) fn push_number(code: &mut Vec<u8>, field: u32, value: u64) -> Result<usize, AllocError>
-    ensures pushed { OnOk result (code.new.items ≡ code.old.items ++ written_node (FieldNode.Number field value, [])) }
-    ensures len { IfOk result (λ len. len ≡ length (varint value)) }
-    ensures few { IfOk result (λ len. len ≤ NUMBER_LEN) }
+pub(crate) fn put_number_node(code: &mut Vec<u8>, field: u32, value: u64) -> usize
+    requires room { vec_len code.old + 2 * NUMBER_LEN ≤ vec_capacity code.old }
+    ensures put { code.new.items ≡ code.old.items ++ written_node (FieldNode.Number field value, []) }
+    ensures len { result ≡ length (varint value) }
+    ensures few { result ≤ NUMBER_LEN }
 {
-    code.reserve(2 * NUMBER_LEN)?;
     put_number(code, 4 * u64::from(field));
     let before = code.len();
     put_number(code, value);
-    Ok(code.len() - before)
+    code.len() - before
+}
+
+/// Appends the node of a text of one byte that stands so many times over, for which there is room.
+#[tactic(auto, unfolding(crate::specs::Written::written_node, wire_varint::specs::Varint::varint, wire_varint::specs::Varint::groups))]
+#[inline(always)]
+pub(crate) fn put_byte_text(code: &mut Vec<u8>, field: u32, times: u32, byte: u8)
+    requires room { vec_len code.old + 2 * NUMBER_LEN + 2 ≤ vec_capacity code.old }
+    ensures { code.new.items ≡ code.old.items ++ written_node (FieldNode.Bytes field times, byte ∷ []) }
+{
+    put_number(code, 4 * u64::from(field) + 1);
+    put_number(code, u64::from(times));
+    code.push_reserved(1);
+    code.push_reserved(byte);
 }
 
 /// Appends the node of a text that stands so many times over.
@@ -89,21 +102,20 @@ pub(crate) fn push_text(
     ensures { OnOk result (code.new.items ≡ code.old.items ++ written_node (FieldNode.Bytes field times, text.now)) }
 {
     code.reserve(3 * NUMBER_LEN)?;
-    put_number(code, 4 * u64::from(field) + 1);
+    put_number(code, 4 * u64::from(field) + 1); // its field and kind
     put_number(code, u64::from(times));
     put_number(code, text.len() as u64);
     code.extend_from_slice(text)
 }
 
-/// Appends the node with which a nested message begins.
+/// Appends the node with which a nested message begins, for which there is room.
 #[tactic(auto, unfolding(crate::specs::Written::written_node))]
 #[inline(always)]
-pub(crate) fn push_begin(code: &mut Vec<u8>, field: u32) -> Result<(), AllocError>
-    ensures { OnOk result (code.new.items ≡ code.old.items ++ written_node (FieldNode.Begin field, [])) }
+pub(crate) fn put_begin(code: &mut Vec<u8>, field: u32)
+    requires room { vec_len code.old + NUMBER_LEN ≤ vec_capacity code.old }
+    ensures { code.new.items ≡ code.old.items ++ written_node (FieldNode.Begin field, []) }
 {
-    code.reserve(NUMBER_LEN)?;
     put_number(code, 4 * u64::from(field) + 2);
-    Ok(())
 }
 
 /// Appends the node with which one ends.

@@ -2,7 +2,7 @@ use Rattle.std.proofs.Common.{[], arith, refl}
 use Rattle.field_tree.specs.declared.node.FieldNode.TheVariants.{Number}
 use Rattle.field_tree.specs.Judged.{level}
 use Rattle.field_tree.proofs.ParserLemmas.{depth_surveyed, more_kept}
-use Rattle.field_tree.proofs.parser.Parser.push_number.Goals as goal
+use Rattle.field_tree.proofs.parser.Parser.add_number.Goals as goal
 
 pub add_node-requires-clause-within : goal.add_node-requires-clause-within
 add_node-requires-clause-within c = depth_surveyed c.args.self.now.code.items c.args.self.now.depth c.args.self.now.found c.requires.kept
@@ -11,7 +11,7 @@ pub returns-clause-kept : goal.returns-clause-kept
 unfolding level
 returns-clause-kept c =
     let old = c.args.self.now in
-    rw c.in_ok-len.ensures.pushed
+    rw c.put_number_node-len.ensures.put
     (more_kept old.code.items [] (Number c.args.field c.args.value) old.depth old.found c.add_node.new.self c.requires.kept
     (c.ranges.field.fits, c.ranges.value.fits) refl (omega arith)
-    (λ nodes here before. c.add_node.ensures nodes [] (c.number_len.ensures c.args.value 0 c.in_ok-len.ensures.len) here before))
+    (λ nodes here before. c.add_node.ensures nodes [] (c.number_len.ensures c.args.value 0 c.put_number_node-len.ensures.len) here before))
