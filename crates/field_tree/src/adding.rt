@@ -1,6 +1,6 @@
 //! One node more. What mostly comes is added by calls that make no others, since there is room for it and
 //! its numbers are short. All else is left to calls of their own.
-ghost use Rattle.std.specs.Prelude.{◌≡◌, ℕ, ◌+◌, ◌<◌, ◌≤◌, [], ◌∷◌, vec_len, vec_capacity, OnOk};
+ghost use Rattle.std.specs.Prelude.{◌≡◌, ◌+◌, ◌<◌, ◌≤◌, [], ◌∷◌, vec_len, vec_capacity, OnOk};
 ghost use Rattle.std.specs.Bool.{OnTrue};
 ghost use Rattle.field_tree.specs.Views.{text_read, AddsNode, Keeps};
 

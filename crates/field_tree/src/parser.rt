@@ -1,5 +1,5 @@
 //! Reading a text without recursion: what is read whole at once, and all else byte by byte.
-ghost use Rattle.std.specs.Prelude.{◌≡◌, ℕ, ◌+◌, ◌-◌, ◌/◌, ◌<◌, ◌≤◌, vec_len, vec_capacity, ◌==◌, ◌||◌, length, List, [], drop, IfOk, IfSome, OnOk, Some, None, false};
+ghost use Rattle.std.specs.Prelude.{◌≡◌, ℕ, ◌+◌, ◌-◌, ◌/◌, ◌<◌, ◌≤◌, vec_len, vec_capacity, ◌==◌, ◌||◌, length, IfOk, OnOk, Some, false};
 ghost use Rattle.field_tree.specs.Machine.{IsValid, IsBetween, settled, before_byte, applied, next, finish, nodes_or_column, beginning};
 ghost use Rattle.field_tree.specs.declared.mode.Mode.TheVariants.{Pairs};
 ghost use Rattle.field_tree.specs.Scanning.{RunsOver, ReadsPairs};
