@@ -1,8 +1,11 @@
 -- What a reading of the bytes in front of a text says of those behind them.
-use Rattle.std.proofs.Common.{◌≡◌, ℕ, ◌+◌, ◌-◌, ◌≤◌, Option, Some, None, Err, List, [], ◌∷◌, ◌++◌, length, length-append, ap, subst, refl, arith, ◌∙◌, append-nil}
+use Rattle.std.proofs.Common.{◌≡◌, ℕ, ◌+◌, ◌-◌, ◌≤◌, Bool, true, false, ◌==◌, if◌then◌else◌, Option, Some, None, Err, List, [], ◌∷◌, ◌++◌, length, length-append, ap, subst, refl, arith, ◌∙◌, append-nil}
+use Rattle.field_tree.specs.declared.mode.Mode.TheVariants.{After}
+use Rattle.field_tree.specs.declared.parser.Parser.{Parser}
 use Rattle.field_tree.specs.Nodes.{Shown}
-use Rattle.field_tree.specs.Machine.{TextReading, next, run, finish, beginning, taken_back, at_end, nodes_or_column, IsValid}
+use Rattle.field_tree.specs.Machine.{TextReading, next, run, settled, finish, beginning, taken_back, at_end, nodes_or_column, IsValid}
 use Rattle.field_tree.specs.Scanning.{RunsOver}
+use Rattle.field_tree.specs.Views.{nodes_read, reading, Ends}
 use Rattle.field_tree.proofs.Completes.{valid_here}
 use Rattle.field_tree.proofs.Cuts.{depth_within}
 use Rattle.field_tree.proofs.Faults.{back_within}
@@ -39,6 +42,15 @@ refused_at text rest b r given refused =
     let long = both_long text given.0 (b ∷ rest) given.1 in
     let column : length given.0 + 1 - length (taken_back r.mode b) ≡ length text - length rest - length (taken_back r.mode b) = omega (arith, long) in
     ap nodes_or_column given.1 ∙ outcome_refused given.0 b rest r given.2 refused ∙ ap Err column
+
+ends_where : (test : Bool) (ns : List Shown) (p : Parser) → ns ≡ nodes_read p → Ends test (if test then Some ns else None) p
+ends_where true ns p same = ap Some same
+ends_where false ns p same = refl
+
+-- a text ends behind a field that has ended, where no message is open
+pub after_ends : (p : Parser) → Ends (p.depth == 0) (finish (reading p After)) p
+unfolding finish settled
+after_ends p = ends_where (p.depth == 0) (nodes_read p) p refl
 
 pub ends_at : (text : List ℕ) (r : TextReading) (o : Option (List Shown)) → RunsOver beginning text r [] → finish r ≡ o
     → nodes_or_column text ≡ at_end (length text) o

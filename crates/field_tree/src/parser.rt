@@ -248,15 +248,31 @@ impl Parser {
     /// Ends the last field, and answers whether the text may end here.
     #[tactic(auto, unfolding(crate::specs::Machine::finish))]
     #[inline(never)]
-    fn end(&mut self, mode: &mut Mode) -> Result<bool, AllocError>
+    fn end_last(&mut self, mode: Mode) -> Result<bool, AllocError>
         requires kept { Keeps self.old }
-        requires valid { IsValid mode.old (text_read self.old) }
+        requires valid { IsValid mode (text_read self.old) }
         requires depth { self.old.depth < usize.MAX }
-        ensures ended { IfOk result (λ ended. Ends ended (finish (reading self.old mode.old)) self.new) }
+        ensures ended { IfOk result (λ ended. Ends ended (finish (reading self.old mode)) self.new) }
         ensures kept { OnOk result (Keeps self.new) }
     {
-        self.settle(mode)?;
-        Ok(may_end(*mode, self.depth))
+        let mut last = mode;
+        self.settle(&mut last)?;
+        Ok(may_end(last, self.depth))
+    }
+
+    /// The same, where most texts end behind a field that has ended.
+    #[inline(always)]
+    fn end(&mut self, mode: Mode) -> Result<bool, AllocError>
+        requires kept { Keeps self.old }
+        requires valid { IsValid mode (text_read self.old) }
+        requires depth { self.old.depth < usize.MAX }
+        ensures ended { IfOk result (λ ended. Ends ended (finish (reading self.old mode)) self.new) }
+        ensures kept { OnOk result (Keeps self.new) }
+    {
+        match mode {
+            Mode::After => Ok(self.depth == 0),
+            _ => self.end_last(mode),
+        }
     }
 }
 
@@ -284,18 +300,18 @@ pub(crate) fn read(parser: &mut Parser, text: &[u8]) -> Result<(), FieldError>
             return Err(FieldError::OutOfMemory);
         };
         mode = to;
-        if left.len() < rest.len() {
-            rest = left;
-            continue 'bytes;
-        }
-        let mut now = mode;
         let Some((byte, behind)) = first_byte(left) else {
-            return match parser.end(&mut now) {
+            return match parser.end(mode) {
                 Ok(true) => Ok(()),
                 Ok(false) => Err(bad_field(text.len() + 1)),
                 Err(_) => Err(FieldError::OutOfMemory),
             };
         };
+        if left.len() < rest.len() {
+            rest = left;
+            continue 'bytes;
+        }
+        let mut now = mode;
         match parser.step(&mut now, byte) {
             Ok(true) => rest = behind,
             Ok(false) => {
