@@ -1,5 +1,6 @@
 pub mod FragmentLemmas
 pub mod PresentLemmas
+pub mod PlainLemmas
 pub mod RowLemmas
 pub mod StepLemmas
 pub mod SpotLemmas

@@ -1,8 +1,10 @@
 -- A run: packets that lie whole in one chunk, delivered one behind another.
-use Rattle.std.specs.Prelude.{⊤, ◌≡◌, ℕ, ◌-◌, ◌<◌, ◌≤◌, true, false, length}
+use Rattle.std.specs.Prelude.{⊤, ◌≡◌, ℕ, ◌+◌, ◌-◌, ◌<◌, ◌≤◌, ◌==◌, ◌&&◌, true, false, length}
 use Rattle.byte_io.specs.Bytes.{Intake, Faulted}
 use Rattle.trace_model.specs.Buffers.{Buffer}
+use Rattle.trace_model.specs.Images.{has_flag_1, has_flag_2}
 use Rattle.trace_model.specs.Walks.{is_accepted}
+use Rattle.ring_bytes.specs.declared.key.RecordKey.{RecordKey}
 use Rattle.trace_buffer.specs.Calls.{with_deliveries}
 use Rattle.sequence_reader.specs.declared.progress.Progress.{Progress}
 use Rattle.sequence_reader.specs.declared.run.Ran.{Ran}
@@ -21,6 +23,13 @@ pub record IsPlain (piece : Piece) : Type 0 where
   pub ends : piece.runs_on ≡ false
   pub done : piece.awaits ≡ false
   pub accepted : is_accepted piece.bytes.now ≡ true
+
+-- what a chunk's header says of the fragment with this number: it is there, continues no packet, runs on into no chunk, awaits no patch
+pub record MayBePlain (key : RecordKey) (passed : ℕ) : Type 0 where
+  pub there : passed < key.count
+  pub begins : (has_flag_1 key.flags && (passed == 0)) ≡ false
+  pub ends : (has_flag_2 key.flags && (passed + 1 == key.count)) ≡ false
+  pub done : (key.awaits && (passed + 1 == key.count)) ≡ false
 
 -- packets were delivered, maybe none, and nothing else was passed
 pub record RunsOn (old new : Buffer) (before after : Intake) (bounds : Bounds) (limit : ℕ) (progress next : Progress) : Type 0 where

@@ -85,7 +85,19 @@ pub fn read_counted<O: Sink>(
         progress = ran.progress;
         match ran.end {
             RunEnd::Chunk => {}
-            RunEnd::Other => match pass_link(buffer, bounds, limit, progress, out) {
+            // The call is given a copy, so that the state of the loop need not lie in memory for it.
+            RunEnd::Other => match pass_link(
+                buffer,
+                bounds,
+                limit,
+                Progress {
+                    at: progress.at,
+                    held: progress.held,
+                    marked: progress.marked,
+                    delivered: progress.delivered,
+                },
+                out,
+            ) {
                 Turned::On { progress: next } => progress = next,
                 Turned::Ended { why } => {
                     return ReadCount {

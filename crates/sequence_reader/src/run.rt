@@ -1,5 +1,5 @@
 //! The packets that lie whole in one chunk, one behind another: most packets do.
-ghost use Rattle.std.specs.Prelude.{◌≡◌, ◌<◌, ◌≤◌, ◌^◌, true, length, Some, IfSome};
+ghost use Rattle.std.specs.Prelude.{◌≡◌, ◌-◌, ◌/◌, ◌%◌, ◌<◌, ◌≤◌, ◌^◌, true, length, Some, IfSome};
 ghost use Rattle.trace_model.specs.Buffers.{live_at};
 ghost use Rattle.trace_model.specs.Reading.{reading_of, is_readable};
 ghost use Rattle.trace_buffer.specs.Calls.{place_in};
@@ -7,14 +7,17 @@ ghost use Rattle.trace_buffer.specs.Records.{chunk_of};
 ghost use Rattle.sequence_reader.specs.Spots.{FitsChunk};
 ghost use Rattle.sequence_reader.specs.Steps.{IsPieceIn};
 ghost use Rattle.sequence_reader.specs.Turns.{IsAt};
-ghost use Rattle.sequence_reader.specs.Runs.{IsPlain, Runs, PutsRun, CountsRun, UnlessRunFails};
+ghost use Rattle.sequence_reader.specs.Runs.{IsPlain, MayBePlain, Runs, PutsRun, CountsRun, UnlessRunFails};
 
+use crate::bools::both;
 use crate::progress::Progress;
 use crate::spot::{Bounds, Spot};
-use crate::step::{Piece, Step, present};
+use crate::step::{Piece, spot_behind};
 use byte_io::put::WriteFault;
 use byte_io::traits::Sink;
+use chunk_image::read_fragment;
 use packet_check::accepts_packet;
+use page_geometry::{FIRST_CONTINUES, LAST_CONTINUES};
 use ring_bytes::RecordKey;
 use trace_buffer::TraceBuffer;
 use trace_file::put_packet;
@@ -148,7 +151,7 @@ fn put_run<O: Sink>(
 }
 
 /// The fragment at a spot of a chunk with this header and this payload, where it is a packet by itself
-/// that is delivered.
+/// that is delivered. It asks the header once for all fragments of the chunk, and not for each as `present`.
 #[inline(always)]
 fn plain_at(key: RecordKey, payload: &[u8], closed: bool, spot: Spot) -> Option<Piece<'_>>
     requires small { length payload.now ≤ 2 ^ 26 }
@@ -158,21 +161,56 @@ fn plain_at(key: RecordKey, payload: &[u8], closed: bool, spot: Spot) -> Option<
     ensures here { IfSome result (λ piece. IsPieceIn closed (chunk_of key payload.now) spot piece) }
     ensures plain { IfSome result (λ piece. IsPlain piece) }
 {
-    match present(key, payload, closed, spot) {
-        Step::Fragment { piece } if is_plain(piece) => Some(piece),
-        _ => None,
+    if !may_be_plain(key, spot.passed) {
+        return None;
     }
+    let last = spot.passed + 1 == key.count;
+    let Some(fragment) = read_fragment(&payload[spot.offset as usize..], spot.offset, last) else {
+        unreachable!()
+    };
+    if fragment.dropped || !accepts_packet(fragment.bytes) {
+        return None;
+    }
+    let end = fragment.offset + fragment.bytes.len() as u32;
+    let stays = both(key.partial, !closed);
+    Some(Piece {
+        bytes: fragment.bytes,
+        dropped: false,
+        headless: false,
+        runs_on: false,
+        awaits: false,
+        behind: spot_behind(spot, end, both(last, !stays)),
+    })
 }
 
-/// Whether a fragment is a packet by itself that is delivered.
+/// Whether the header leaves it open that the fragment with this number is a packet by itself.
 #[inline(always)]
-fn is_plain(piece: Piece<'_>) -> bool
-    requires { length piece.bytes.now ≤ 2 ^ 62 }
-    ensures { result ≡ true → IsPlain piece.entry }
+fn may_be_plain(key: RecordKey, passed: u16) -> bool
+    ensures { result ≡ true → MayBePlain key passed }
 {
-    !piece.dropped
-        && !piece.headless
-        && !piece.runs_on
-        && !piece.awaits
-        && accepts_packet(piece.bytes)
+    if passed < plain_start(key) {
+        return false;
+    }
+    passed < plain_end(key)
+}
+
+/// The first fragment of a chunk that doesn't continue the packet of the chunk before.
+#[inline(always)]
+fn plain_start(key: RecordKey) -> u16
+    ensures { key.flags % 2 ≡ 1 → result ≡ 1 }
+{
+    u16::from(key.flags % 2 == FIRST_CONTINUES)
+}
+
+/// Behind the last fragment of a chunk that neither runs on into the next one nor awaits a patch.
+#[inline(always)]
+fn plain_end(key: RecordKey) -> u16
+    ensures within { result ≤ key.count }
+    ensures ends { key.flags / 2 % 2 ≡ 1 → result ≡ key.count - 1 }
+    ensures done { key.awaits ≡ true → result ≡ key.count - 1 }
+{
+    if key.awaits || key.flags / LAST_CONTINUES % 2 == 1 {
+        return key.count.saturating_sub(1);
+    }
+    key.count
 }

@@ -114,7 +114,7 @@ fn absent(buffer: &TraceBuffer, bounds: Bounds, spot: Spot) -> Step<'_>
 
 /// What stands where a chunk has a record with this header and this payload.
 #[inline(always)]
-pub fn present(key: RecordKey, payload: &[u8], closed: bool, spot: Spot) -> Step<'_>
+fn present(key: RecordKey, payload: &[u8], closed: bool, spot: Spot) -> Step<'_>
     requires small { length payload.now ≤ 2 ^ 26 }
     requires reads { is_readable (reading_of key.count payload.now) ≡ true }
     requires fits { FitsChunk closed (chunk_of key payload.now) spot }
@@ -158,7 +158,7 @@ pub fn present(key: RecordKey, payload: &[u8], closed: bool, spot: Spot) -> Step
 }
 
 /// The spot behind a fragment, which is the next chunk's first one where this one was the last.
-fn spot_behind(spot: Spot, end: u32, ended: bool) -> Spot
+pub fn spot_behind(spot: Spot, end: u32, ended: bool) -> Spot
     requires chunk { spot.chunk_id + 1 < 2 ^ 64 }
     requires passed { spot.passed + 1 < 2 ^ 16 }
     ensures { result ≡ spot_behind spot end ended }
