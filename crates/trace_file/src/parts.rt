@@ -82,6 +82,18 @@ fn put_head<O: Sink>(out: &mut O, len: u64) -> Result<(), WriteFault>
     if len < 128 {
         return put_all(out, &two(PACKET_TAG, len as u8));
     }
+    put_long_head(out, len)
+}
+
+/// The same of any length. It stays a call, since few packets are that long.
+#[inline(never)]
+fn put_long_head<O: Sink>(out: &mut O, len: u64) -> Result<(), WriteFault>
+    requires { O.may_write out.old }
+    ensures all { OnOk result (O.taken out.new ≡ after_told (O.taken out.old) (0x0A ∷ varint len)) }
+    ensures part { OnErr result (TakesPart (O.taken out.old) (O.taken out.new) (0x0A ∷ varint len)) }
+    ensures count { CountsFaults (O.faults out.old) (O.faults out.new) result }
+    ensures goes_on { OnOk result (O.may_write out.new) }
+{
     put_all(out, &head(len))
 }
 
