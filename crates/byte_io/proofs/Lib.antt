@@ -1,3 +1,4 @@
+mod KeptLemmas
 mod Known
 pub mod Lent
 pub mod Told

@@ -1,5 +1,5 @@
 -- What waits in a buffered sink, and on what it stands.
-use Rattle.std.specs.Prelude.{ℕ, List, drop, vec_len}
+use Rattle.std.specs.Prelude.{ℕ, List, take, drop}
 use Rattle.std.specs.Borrow.{MutBor}
 use Rattle.byte_io.specs.Bytes.{Loan, Intake, after_told, lent_by, told_bytes}
 use Rattle.byte_io.specs.declared.traits.Sink.{Ghosts}
@@ -8,11 +8,11 @@ use Rattle.byte_io.specs.declared.buffered.BufferedSink.{BufferedSink}
 
 -- the bytes that were accepted and not passed on yet
 abbrev pub pending_bytes : PendingBytes → List ℕ
-pending_bytes pending = drop pending.passed pending.bytes.items
+pending_bytes pending = drop pending.passed (take pending.filled pending.bytes.items)
 
 -- how many bytes stand in the room, passed on or not
 abbrev pub pending_count : PendingBytes → ℕ
-pending_count pending = vec_len pending.bytes
+pending_count pending = pending.filled
 
 module _ {O : Type 0} {members : Ghosts O} where
   -- the borrow of the sink behind a buffered one

@@ -2,7 +2,7 @@
 //! `PendingBytes`, lends them and the sink to a `BufferedSink`, hands that to whatever writes,
 //! drops it, and at last passes on what waits: only then are all bytes where they belong, and
 //! only that call knows whether the last of them could be written.
-ghost use Rattle.std.specs.Prelude.{◌≡◌, ℕ, ◌+◌, ◌-◌, ◌<◌, ◌≤◌, List, [], ◌++◌, length, take, drop, vec_len, vec_capacity, IfOk, OnOk, OnErr};
+ghost use Rattle.std.specs.Prelude.{◌≡◌, ℕ, ◌+◌, ◌-◌, ◌<◌, ◌≤◌, List, [], ◌++◌, length, take, drop, vec_len, IfOk, OnOk, OnErr};
 ghost use Rattle.byte_io.specs.declared.buffered.TheConstants.{ROOM};
 ghost use Rattle.byte_io.specs.Bytes.{Intake, Loan, after_told, lent_by, told_bytes, IsGrown, CountsFaults, TakesUpTo};
 
@@ -18,11 +18,15 @@ const ROOM: usize = 65_536;
 /// outlive the sink, and are lost where nobody passes them on.
 #[derive(Drop)]
 pub struct PendingBytes {
+    /// All of the room.
     bytes: Vec<u8>,
+    /// Up to here they were passed on.
     passed: usize,
-    ghost in_bytes: { passed ≤ vec_len bytes },
-    ghost in_room: { vec_len bytes ≤ ROOM },
-    ghost has_room: { ROOM ≤ vec_capacity bytes },
+    /// Up to here they were accepted.
+    filled: usize,
+    ghost in_filled: { passed ≤ filled },
+    ghost in_room: { filled ≤ ROOM },
+    ghost has_room: { vec_len bytes ≡ ROOM },
 }
 
 impl PendingBytes {
@@ -32,8 +36,12 @@ impl PendingBytes {
     pub fn new(alloc: Global) -> Result<PendingBytes, AllocError>
         ensures { IfOk result (λ pending. pending_bytes pending ≡ []) }
     {
-        let bytes = Vec::with_capacity(alloc, ROOM)?;
-        Ok(PendingBytes { bytes, passed: 0 })
+        let bytes = vec![in alloc; 0; ROOM]?;
+        Ok(PendingBytes {
+            bytes,
+            passed: 0,
+            filled: 0,
+        })
     }
 
     /// Passes on all that waits. After a fault, what the sink took waits no longer.
@@ -46,14 +54,15 @@ impl PendingBytes {
         ensures count { CountsFaults (O.faults inner.old) (O.faults inner.new) result }
         ensures goes_on { OnOk result (O.may_write inner.new) }
     {
-        while self.passed < self.bytes.len() {
-            match inner.write(&self.bytes[self.passed..]) {
+        while self.passed < self.filled {
+            let accepted = &self.bytes[..self.filled];
+            match inner.write(&accepted[self.passed..]) {
                 Ok(count) => self.passed += count,
                 Err(Failed) => return Err(WriteFault),
             }
         }
         self.passed = 0;
-        self.bytes.clear();
+        self.filled = 0;
         Ok(())
     }
 
@@ -61,7 +70,7 @@ impl PendingBytes {
     fn room_left(&self) -> usize
         ensures { result + pending_count self.now ≡ ROOM }
     {
-        ROOM - self.bytes.len()
+        ROOM - self.filled
     }
 
     // Keeps the piece behind what waits.
@@ -69,10 +78,9 @@ impl PendingBytes {
         requires { pending_count self.old + length piece.now ≤ ROOM }
         ensures { pending_bytes self.new ≡ pending_bytes self.old ++ piece.now }
     {
-        match self.bytes.extend_from_slice(piece) {
-            Ok(()) => {}
-            Err(_) => unreachable!(),
-        }
+        let end = self.filled + piece.len();
+        self.bytes[self.filled..end].copy_from_slice(piece);
+        self.filled = end;
     }
 }
 
@@ -87,7 +95,7 @@ pub struct BufferedSink<'a, O: Sink> {
 }
 
 impl<'a, O: Sink> BufferedSink<'a, O> {
-    ghost use Rattle.byte_io.specs.Buffered.{buffered_inner, buffered_pending, buffered_loan, buffered_intake};
+    ghost use Rattle.byte_io.specs.Buffered.{buffered_inner, buffered_pending, buffered_loan, buffered_intake, pending_count};
 
     /// A sink over `inner`. What waits in `pending` already goes before all that is written.
     pub fn new(inner: &'a mut O, pending: &'a mut PendingBytes) -> BufferedSink<'a, O>
@@ -105,11 +113,10 @@ impl<'a, O: Sink> BufferedSink<'a, O> {
         }
     }
 
-    // Takes the piece after it passed on what waits. It stays a call, so that a piece that finds room
-    // needs none.
+    // Takes a piece that is longer than the room, after it passed on what waits.
     #[inline(never)]
     #[tactic(auto, using(crate::proofs::Lent::after_told_lent, crate::proofs::Told::after_told_again, crate::proofs::Told::after_told_nothing, crate::proofs::Lent::up_to_joined, crate::proofs::Lent::grown_up_to, crate::proofs::Lent::grown_after))]
-    fn write_behind(&mut self, piece: &[u8]) -> Result<usize, Failed>
+    fn write_long(&mut self, piece: &[u8]) -> Result<usize, Failed>
         requires { O.may_write (buffered_inner self.old).now }
         ensures within { IfOk result (λ count. count ≤ length piece.now) }
         ensures some { 0 < length piece.now → IfOk result (λ count. 0 < count) }
@@ -122,11 +129,24 @@ impl<'a, O: Sink> BufferedSink<'a, O> {
             Ok(()) => {}
             Err(WriteFault) => return Err(Failed),
         }
-        if piece.len() > ROOM {
-            return self.inner.write(piece);
+        self.inner.write(piece)
+    }
+
+    // Passes on what waits. It stays a call without the piece that finds no room, so that a short piece
+    // need not be in memory.
+    #[inline(never)]
+    #[tactic(auto, using(crate::proofs::Lent::up_to_joined, crate::proofs::Lent::grown_up_to))]
+    fn make_room(&mut self) -> Result<(), Failed>
+        requires { O.may_write (buffered_inner self.old).now }
+        ensures intake { buffered_intake self.new ≡ buffered_intake self.old }
+        ensures room { OnOk result (pending_count (buffered_pending self.new).now ≡ 0) }
+        ensures count { CountsFaults (O.faults (buffered_inner self.old).now) (O.faults (buffered_inner self.new).now) result }
+        ensures goes_on { OnOk result (O.may_write (buffered_inner self.new).now) }
+    {
+        match self.pending.pass_on(self.inner) {
+            Ok(()) => Ok(()),
+            Err(WriteFault) => Err(Failed),
         }
-        self.pending.keep(piece);
-        Ok(piece.len())
     }
 }
 
@@ -144,11 +164,14 @@ impl<O: Sink> Sink for BufferedSink<'_, O> {
     #[tactic(auto, using(crate::proofs::Lent::after_told_lent, crate::proofs::Told::after_told_again, crate::proofs::Told::after_told_nothing, crate::proofs::Lent::up_to_joined, crate::proofs::Lent::grown_up_to, crate::proofs::Lent::grown_after))]
     #[inline(always)]
     fn write(&mut self, piece: &[u8]) -> Result<usize, Failed> {
-        if piece.len() <= self.pending.room_left() {
-            self.pending.keep(piece);
-            return Ok(piece.len());
+        if piece.len() > self.pending.room_left() {
+            if piece.len() > ROOM {
+                return self.write_long(piece);
+            }
+            self.make_room()?;
         }
-        self.write_behind(piece)
+        self.pending.keep(piece);
+        Ok(piece.len())
     }
 }
 

@@ -1,4 +1,4 @@
-use Rattle.std.proofs.Common.{◌≡◌, ◌-◌, vec_len}
+use Rattle.std.proofs.Common.{◌≡◌, ◌-◌}
 use Rattle.byte_io.specs.Bytes.{TakesUpTo}
 use Rattle.byte_io.specs.Buffered.{pending_bytes}
 use Rattle.byte_io.proofs.buffered.PendingBytes.pass_on.Given as goal
@@ -9,4 +9,4 @@ invariant-loop-self g l =
     × (g.O.Sink.faults l.inner ≡ g.O.Sink.faults l.fn.inner) × g.O.Sink.may_write l.inner
 
 abbrev pub decreases-loop-self : goal.decreases-loop-self
-decreases-loop-self g l = vec_len l.self.bytes - l.self.passed
+decreases-loop-self g l = l.self.filled - l.self.passed
