@@ -51,7 +51,7 @@ returns-clause-serves c =
             (agrees_letters old letters setup core c.note_request.new.seat (agrees_then c));
         asked = asked_then c ∙ sym (asked_more old.letters) ∙ sym (ap (λ (v : ServiceView). asked_in v.letters) view);
       };
-      passes = c.note_request.ensures.pass;
+      passes = c.note_request.ensures.joins.passes;
       known = subst IsKnownWhole (sym (c.note_request.ensures.known ∙ view)) (known_letters old letters (agrees_then c).known);
     }
 
