@@ -13,4 +13,3 @@ take-requires-clause-next c = record {
   id_is = c.id_of.ensures ∙ ap (id_of 4294967000) (sym c.requires.taken.count_is)
       ∙ ap (λ (f : ℕ). id_of f (taken_of (service_of c.args.service.now.seat.me.0) 0).count) (sym (c.requires.page.froms 0 (omega arith)));
 }
-

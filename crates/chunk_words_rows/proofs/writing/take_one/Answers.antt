@@ -15,4 +15,3 @@ take-requires-clause-next c = record {
       c.id_of.ensures ∙ ap (id_of 4294967000) c.requires.position
       ∙ ap (λ (f : ℕ). id_of f (taken_of (service_of c.args.seat.now.seat.me.0) (c.args.writer - 1)).count) (sym (c.requires.page.froms (c.args.writer - 1) low));
 }
-

@@ -37,4 +37,3 @@ returns-clause-held c =
           let position = c.requires.position in
           now ∙ simp length-append (omega (arith, before, position));
     }
-

@@ -11,4 +11,3 @@ take-requires-clause-next c = record {
   most = first_of (search rules, grind (arith, common_steps));
   id_is = c.id_of.ensures ∙ ap (id_of 0) c.requires.position ∙ ap (λ (f : ℕ). id_of f (count_of c.args.seat.now (c.args.writer - 1))) (sym c.requires.writer.from_is);
 }
-
