@@ -1,4 +1,4 @@
-use Rattle.std.proofs.Common.{◌-◌, ◌∙◌, [], ◌∷◌, ◌++◌, sym, ap, subst}
+use Rattle.std.proofs.Common.{◌-◌, ◌∙◌, [], ◌∷◌, ◌++◌, sym, ap, subst, arith}
 use Rattle.chunk_plain.specs.Views.{Heard, ServiceView, asked_in}
 use Rattle.chunk_words.proofs.MailSteps.{asked_heard}
 use Rattle.chunk_words.specs.Moves.{IsLastAnswer}
@@ -22,6 +22,16 @@ returns-clause-serves c =
       asked = c.requires.serves.asked ∙ sym (ap (λ (v : ServiceView). asked_in v.letters) view ∙ asked_heard old.letters _ _ _);
     }
 
-pub returns-clause-last : goal.returns-clause-last
-returns-clause-last c =
-    subst (λ (v : ServiceView). IsLastAnswer v (c.args.writer - 1) c.answered.result.0 c.answered.result.1) (sym c.answered.ensures.view) c.answered.ensures.answer.last
+pub returns-clause-answer : goal.returns-clause-answer
+returns-clause-answer c =
+    let answer = c.answered.ensures.answer in
+    let asked = answer.asked in
+    let requests = c.requires.serves.asked in
+    record {
+      view = c.answered.ensures.view;
+      asked = omega (arith, asked, requests);
+      told = answer.told;
+      none = answer.none;
+      last = subst (λ (v : ServiceView). IsLastAnswer v (c.args.writer - 1) c.answered.result.0 c.answered.result.1) (sym c.answered.ensures.view) answer.last;
+      heard = answer.heard;
+    }
