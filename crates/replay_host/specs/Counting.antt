@@ -1,5 +1,6 @@
 -- What became of chunks, packets and flush requests, once all is played.
-use Rattle.std.specs.Prelude.{◌≡◌, ℕ, zero, suc, ◌+◌, ◌-◌, ◌^◌, min, Bool, List, [], ◌∷◌, ◌++◌, length, map, Some, vec_len, if◌then◌else◌}
+use Rattle.std.specs.Prelude.{◌≡◌, ℕ, zero, suc, ◌+◌, ◌-◌, ◌^◌, ◌≤◌, min, Bool, List, [], ◌∷◌, ◌++◌, length, map, Some, vec_len, if◌then◌else◌}
+use Rattle.trace_base.specs.declared.limits.TheConstants.{MAX_BUFFERS}
 use Rattle.trace_model.specs.Buffers.{Buffer}
 use Rattle.trace_model.specs.Calls.{Call}
 use Rattle.trace_model.specs.Counts.{last_count}
@@ -18,6 +19,7 @@ use Rattle.trace_writer.specs.Agreement.{counted}
 use Rattle.scenario_text.specs.Scenario.{Parts}
 use Rattle.service_core.specs.Agreement.{first_of, buffer_of}
 use Rattle.service_core.specs.Routing.{buffer_at}
+use Rattle.loss_report.specs.declared.counts.Done.{Done}
 use Rattle.loss_report.specs.declared.counts.SequenceCounts.{SequenceCounts}
 use Rattle.replay_model.specs.Enough.{IsPlayable}
 use Rattle.replay_model.specs.ActNotes.{ActNote, Answered}
@@ -83,6 +85,13 @@ answers_to view zero = []
 answers_to view (suc place) = answers_to view place ++ Answered place (taken_of view place).count ∷ []
 
 -- ---- all of it
+
+-- there is a mark for each writer, and room for the counts of each buffer and each sequence
+pub record HasCountRoom {T W S : Type 0} (host : Host T W S) (marks : List Bool) (done : Done) : Type 0 where
+  pub buffers : vec_len done.buffers ≡ length host.helper.service.specs.items
+  pub few : vec_len done.buffers ≤ MAX_BUFFERS
+  pub sequences : vec_len done.sequences ≡ length host.writers.items
+  pub marked : length marks ≡ length host.writers.items
 
 -- The counts are those of the report of a scenario's world; those of the requests, where all for which there was room were made.
 pub record IsReportOf (scenario : Parts) (setup : Setup) (world : World) (notes : List ActNote) (buffers : List BufferCounts)

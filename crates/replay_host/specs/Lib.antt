@@ -9,6 +9,7 @@ pub mod Lines
 pub mod Making
 pub mod Playing
 pub mod Raws
+pub mod Ready
 pub mod Replaying
 pub mod Serving
 pub mod Standing

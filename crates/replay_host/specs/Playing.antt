@@ -89,3 +89,10 @@ pub record LeavesWriters {T W S : Type 0} (means : Meaning T W S) (old new : Hos
   pub specs : new.specs ≡ old.specs
   pub views : (place : ℕ) (core : WriterCore W) → slice_get old.writers.items place ≡ Some core
       → means.view new.table core.seat ≡ means.view old.table core.seat
+
+-- A call of the service alone leaves a host: its writers, which producers are open, and the session are as before.
+pub record LeavesHost {T W S : Type 0} (means : Meaning T W S) (old new : Host T W S) : Type 0 where
+  pub host : IsHost means new
+  pub writers : LeavesWriters means old new
+  pub opened : new.open_producers ≡ old.open_producers
+  pub session : new.helper.service.session ≡ old.helper.service.session

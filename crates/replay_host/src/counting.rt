@@ -117,7 +117,7 @@ fn answer_for_rest<S>(service: &ServiceCore<S>, writers: usize, flushes: &mut Fl
 
 impl<W: Words> Host<W, W::Writer, W::Service> {
     ghost use Rattle.trace_writer.specs.declared.writer.WriterCore.{WriterCore};
-    ghost use Rattle.replay_host.specs.Counting.{buffers_now, packets_now, CountsAll};
+    ghost use Rattle.replay_host.specs.Counting.{buffers_now, packets_now, CountsAll, HasCountRoom};
     ghost use Rattle.replay_host.specs.Playing.{IsHost};
 
     /// What became of the packets of the writer at this place, which is marked where lines commit chunks in
@@ -168,10 +168,7 @@ impl<W: Words> Host<W, W::Writer, W::Service> {
     pub fn count(&mut self, marks: &[bool], done: &mut Done)
         requires host { IsHost W.means self.old }
         requires tally { (notes : List ActNote) × IsTally notes (length (W.means.setup self.old.table).writers) self.old.flushes }
-        requires buffers { vec_len done.old.buffers ≡ length self.old.helper.service.specs.items }
-        requires few { vec_len done.old.buffers ≤ MAX_BUFFERS }
-        requires sequences { vec_len done.old.sequences ≡ length self.old.writers.items }
-        requires marks { length marks.now ≡ length self.old.writers.items }
+        requires rows { HasCountRoom self.old marks.now done.old }
         ensures made { self.new.flushes.made ≡ self.old.flushes.made }
         ensures room { vec_len self.new.flushes.chunks ≡ vec_len self.old.flushes.chunks }
         ensures told { self.new.flushes.answers ≡ self.old.flushes.answers }

@@ -173,7 +173,7 @@ pub(crate) fn fill_raws(lines: &LineList, answers: &[RawAnswer], raws: &mut Vec<
 }
 
 impl<W: Words> Host<W, W::Writer, W::Service> {
-    ghost use Rattle.replay_host.specs.Playing.{IsHost, IsOpenAt, HasDone, LeavesWriters};
+    ghost use Rattle.replay_host.specs.Playing.{IsHost, IsOpenAt, HasDone, LeavesHost};
     ghost use Rattle.replay_host.specs.Raws.{MayCommit};
 
     /// A chunk is committed in the name of the writer at this place, whose producer is open. Answers what
@@ -188,10 +188,7 @@ impl<W: Words> Host<W, W::Writer, W::Service> {
         requires may { MayCommit (W.means.setup self.old.table) place chunk.now }
         requires open { IsOpenAt W.means self.old place }
         requires room { HasRoom (W.means.setup self.old.table).sizes payloads.old }
-        ensures host { IsHost W.means self.new }
-        ensures writers { LeavesWriters W.means self.old self.new }
-        ensures opened { self.new.open_producers ≡ self.old.open_producers }
-        ensures session { self.new.helper.service.session ≡ self.old.helper.service.session }
+        ensures leaves { LeavesHost W.means self.old self.new }
         ensures done { (taken : Intake)
             → HasDone W.means (CommitRaw place chunk.now ∷ []) (Told result ∷ []) self.old taken self.new taken }
         ensures room { HasRoom (W.means.setup self.old.table).sizes payloads.new }

@@ -6,8 +6,8 @@ ghost use Rattle.replay_model.specs.Clones.{ReplaysCloning, AreMadeFor};
 ghost use Rattle.scenario_text.specs.Clones.{ClonesNone, without_clones};
 ghost use Rattle.scenario_text.specs.Scenario.{IsScenario, parts_of};
 ghost use Rattle.replay_host.specs.Cloning.{HasReplayedCloning};
-ghost use Rattle.replay_host.specs.Making.{IsMade};
-ghost use Rattle.replay_host.specs.Raws.{AreMarked, HasRoom, raws_in};
+ghost use Rattle.replay_host.specs.Raws.{raws_in};
+ghost use Rattle.replay_host.specs.Ready.{IsReady};
 ghost use Rattle.replay_host.specs.Replaying.{HasReplayed, EndsEarly, CountsStop, IsStall};
 
 use crate::counting::make_done;
@@ -40,15 +40,7 @@ impl<W: Words> Host<W, W::Writer, W::Service> {
         clones: &mut [BufferClone],
         out: &mut O,
     ) -> Result<(), HostFault>
-        requires scenario { IsScenario scenario.now }
-        requires made { IsMade W.means (parts_of scenario.now) self.old }
-        requires marks { AreMarked scenario.now.lines (length scenario.now.writers.items) marks.now }
-        requires room { HasRoom (W.means.setup self.old.table).sizes payloads.old }
-        requires clones { AreMadeFor (parts_of scenario.now) clones.old }
-        requires buffers { vec_len done.old.buffers ≡ vec_len scenario.now.buffers }
-        requires sequences { vec_len done.old.sequences ≡ vec_len scenario.now.writers }
-        requires raws { done.old.raws.items ≡ [] }
-        requires raw_room { raws_in scenario.now.lines ≤ vec_capacity done.old.raws }
+        requires ready { IsReady W.means scenario.now self.old marks.now payloads.old clones.old done.old }
         requires may { O.may_write out.old }
         ensures played { OnOk result (ReplaysCloning (parts_of scenario.now) (O.taken out.old) (O.taken out.new)
             (report_text done.new.buffers.items done.new.sequences.items self.new.flushes.chunks.items ++ raw_text done.new.raws.items)
@@ -110,18 +102,8 @@ fn play_made<T: Sink, L: Ledger>(
     clones: &mut [BufferClone],
     out: &mut T,
 ) -> Result<Done, HostFault>
-    requires scenario { IsScenario scenario.now }
-    requires made { IsMade ⟦<PlainTable as Words>⟧.means (parts_of scenario.now) made }
-    requires marks { AreMarked scenario.now.lines (length scenario.now.writers.items) marks.now }
-    requires payloads { HasRoom (⟦<PlainTable as Words>⟧.means.setup made.table).sizes payloads.old }
-    requires clones { AreMadeFor (parts_of scenario.now) clones.old }
-    requires buffers { vec_len room.buffers ≡ vec_len scenario.now.buffers }
-    requires sequences { vec_len room.sequences ≡ vec_len scenario.now.writers }
-    requires raws { room.raws.items ≡ [] }
-    requires raw_room { raws_in scenario.now.lines ≤ vec_capacity room.raws }
-    requires name { blank.name ≡ L.name }
-    requires parts { blank.parts ≡ L.parts }
-    requires some_part { 0 < L.parts }
+    requires ready { IsReady ⟦<PlainTable as Words>⟧.means scenario.now made marks.now payloads.old clones.old room }
+    requires blank { (blank.name ≡ L.name) × (blank.parts ≡ L.parts) × (0 < L.parts) }
     requires may { T.may_write out.old }
     ensures done { IfOk result (λ done. HasReplayedCloning (parts_of scenario.now) (T.taken out.old) (T.taken out.new) done clones.new) }
     ensures stops { IfErr result (λ fault. EndsEarly (without_clones (parts_of scenario.now)) fault (T.taken out.old) (T.taken out.new)) }

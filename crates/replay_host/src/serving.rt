@@ -11,7 +11,7 @@ use byte_io::traits::Sink;
 use chunk_plain::Words;
 
 impl<W: Words> Host<W, W::Writer, W::Service> {
-    ghost use Rattle.replay_host.specs.Playing.{IsHost, HasDone, LeavesWriters};
+    ghost use Rattle.replay_host.specs.Playing.{IsHost, HasDone, LeavesHost, LeavesWriters};
     ghost use Rattle.replay_host.specs.Stopping.{FailsReading};
 
     /// The complete chunks of an open producer are taken. Producers count from 1.
@@ -19,10 +19,7 @@ impl<W: Words> Host<W, W::Writer, W::Service> {
         requires host { IsHost W.means self.old }
         requires producer { HasProducer (W.means.setup self.old.table) producer }
         requires open { slice_index_or self.old.open_producers.items (producer - 1) false ≡ true }
-        ensures host { IsHost W.means self.new }
-        ensures writers { LeavesWriters W.means self.old self.new }
-        ensures opened { self.new.open_producers ≡ self.old.open_producers }
-        ensures session { self.new.helper.service.session ≡ self.old.helper.service.session }
+        ensures leaves { LeavesHost W.means self.old self.new }
         ensures done { (taken : Intake) → HasDone W.means (Collect producer ∷ []) [] self.old taken self.new taken }
     {
         self.helper.service.collect(&mut self.table, producer);
@@ -52,10 +49,7 @@ impl<W: Words> Host<W, W::Writer, W::Service> {
         requires host { IsHost W.means self.old }
         requires producer { HasProducer (W.means.setup self.old.table) producer }
         requires open { slice_index_or self.old.open_producers.items (producer - 1) false ≡ true }
-        ensures host { IsHost W.means self.new }
-        ensures writers { LeavesWriters W.means self.old self.new }
-        ensures opened { self.new.open_producers ≡ self.old.open_producers }
-        ensures session { self.new.helper.service.session ≡ self.old.helper.service.session }
+        ensures leaves { LeavesHost W.means self.old self.new }
         ensures done { (taken : Intake) → HasDone W.means (Scrape producer ∷ []) [] self.old taken self.new taken }
     {
         self.helper.service.scrape(&mut self.table, producer);
@@ -67,10 +61,7 @@ impl<W: Words> Host<W, W::Writer, W::Service> {
     pub fn read<O: Sink>(&mut self, buffer: u8, limit: u64, out: &mut O) -> Result<(), HostFault>
         requires host { IsHost W.means self.old }
         requires may { O.may_write out.old }
-        ensures host { IsHost W.means self.new }
-        ensures writers { LeavesWriters W.means self.old self.new }
-        ensures opened { self.new.open_producers ≡ self.old.open_producers }
-        ensures session { self.new.helper.service.session ≡ self.old.helper.service.session }
+        ensures leaves { LeavesHost W.means self.old self.new }
         ensures done { OnOk result
             (HasDone W.means (ReadAll buffer limit ∷ []) [] self.old (O.taken out.old) self.new (O.taken out.new)) }
         ensures fails { IfErr result (λ fault. FailsReading W.means buffer limit self.old (O.taken out.old) self.new (O.taken out.new) fault) }

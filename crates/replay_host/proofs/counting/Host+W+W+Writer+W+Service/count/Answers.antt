@@ -27,7 +27,7 @@ returns-clause-counts g c scenario notes world told played playable first tally 
     let wide : length c.deref_mut-2.result.now ≡ length c.args.done.now.sequences.items =
     ap (λ (xs : List SequenceCounts). length xs) c.deref_mut-2.ensures.value in
     let joined = c.args.done.now.sequences.ok.0 in
-    let said = c.requires.sequences in
+    let said = c.requires.rows.sequences in
     let buffers_many : length buffers ≡ length host.helper.service.specs.items =
     ap (λ (xs : List BufferCounts). length xs) c.count_buffers.ensures ∙ length-map (buffers_now means host) counts_of
     ∙ buffers_long means host in
@@ -37,7 +37,7 @@ returns-clause-counts g c scenario notes world told played playable first tally 
     c.answer_for_rest.new.flushes.chunks.ok.0
     scenario notes world told played playable first tally marked in
     record {
-      buffers_are = with_items_is c.args.done.now.buffers buffers (buffers_many ∙ sym c.requires.buffers) ∙ is.buffers_are;
+      buffers_are = with_items_is c.args.done.now.buffers buffers (buffers_many ∙ sym c.requires.rows.buffers) ∙ is.buffers_are;
       sequences_are = with_items_is c.args.done.now.sequences sequences (omega (arith, room, wide, joined)) ∙ is.sequences_are;
       sums_are = is.sums_are;
     }

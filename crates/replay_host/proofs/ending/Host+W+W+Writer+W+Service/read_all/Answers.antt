@@ -55,7 +55,7 @@ loop-index-preserved g c =
     record {
       ended = subst (λ (n : ℕ). HasEnded means (reads_to n) old taken c.read.new.self left) (sym (add-one index))
           (ended_more means (reads_to index) (ReadAll (suc index) last_count ∷ []) old mid c.read.new.self taken between left c.loop-index.invariant.ended
-          c.in_ok-read.ensures.host c.in_ok-read.ensures.writers.flushes done);
+          c.in_ok-read.ensures.leaves.host c.in_ok-read.ensures.leaves.writers.flushes done);
       steady = c.in_ok-read.ensures.count ∙ c.loop-index.invariant.steady;
       may = c.in_ok-read.ensures.goes_on;
     }

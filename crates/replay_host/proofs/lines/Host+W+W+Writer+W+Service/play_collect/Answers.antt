@@ -20,5 +20,5 @@ pub returns : goal.returns
 returns g c = record {
   played = λ moment comes taken.
       served_played g.W.Words.means moment (Collect c.args.producer ∷ []) c.args.self.now c.collect.new.self taken taken comes
-      c.collect.ensures.host c.collect.ensures.writers c.collect.ensures.opened c.collect.ensures.session (c.collect.ensures.done taken);
+      c.collect.ensures.leaves.host c.collect.ensures.leaves.writers c.collect.ensures.leaves.opened c.collect.ensures.leaves.session (c.collect.ensures.done taken);
 }

@@ -34,7 +34,7 @@ tell-requires g c =
     let one = ap (λ (ns : List ℕ). length ns) (numbers_raw moment.line moment.rest (suc c.args.place) c.args.chunk.now c.requires.next.1) in
     let room = next.at.going.told_room in
     let less : vec_len c.args.self.now.flushes.answers < vec_capacity c.args.self.now.flushes.answers = omega (arith, one, room) in
-    subst (λ (f : Flushes). vec_len f.answers < vec_capacity f.answers) (sym c.commit-answer.ensures.writers.flushes) less
+    subst (λ (f : Flushes). vec_len f.answers < vec_capacity f.answers) (sym c.commit-answer.ensures.leaves.writers.flushes) less
 
 pub returns-clause-played : goal.returns-clause-played
 returns-clause-played g c moment what next taken =
@@ -43,5 +43,5 @@ returns-clause-played g c moment what next taken =
     let commit = c.commit-answer.ensures in
     let tell = c.tell.ensures in
     raw_played means moment c.args.place c.args.chunk.now c.commit-answer.result c.args.self.now c.commit-answer.new.self c.tell.new.self
-    taken what comes.0 commit.host commit.writers commit.opened commit.session (commit.done taken) tell.tally tell.made tell.answered
+    taken what comes.0 commit.leaves.host commit.leaves.writers commit.leaves.opened commit.leaves.session (commit.done taken) tell.tally tell.made tell.answered
     tell.chunks tell.more tell.room

@@ -17,7 +17,7 @@ returns-clause-played g c =
     on_ok_map c.read.result _ _ c.read.ensures.done
     (λ done moment comes.
     served_played g.W.Words.means moment (ReadAll c.args.buffer c.args.limit ∷ []) c.args.self.now c.read.new.self (g.O.Sink.taken c.args.out.now) (g.O.Sink.taken c.read.new.out) comes
-    c.read.ensures.host c.read.ensures.writers c.read.ensures.opened c.read.ensures.session done)
+    c.read.ensures.leaves.host c.read.ensures.leaves.writers c.read.ensures.leaves.opened c.read.ensures.leaves.session done)
 
 pub returns-clause-stops : goal.returns-clause-stops
 returns-clause-stops g c =

@@ -20,5 +20,5 @@ pub returns : goal.returns
 returns g c = record {
   played = λ moment comes taken.
       served_played g.W.Words.means moment (Scrape c.args.producer ∷ []) c.args.self.now c.scrape.new.self taken taken comes
-      c.scrape.ensures.host c.scrape.ensures.writers c.scrape.ensures.opened c.scrape.ensures.session (c.scrape.ensures.done taken);
+      c.scrape.ensures.leaves.host c.scrape.ensures.leaves.writers c.scrape.ensures.leaves.opened c.scrape.ensures.leaves.session (c.scrape.ensures.done taken);
 }

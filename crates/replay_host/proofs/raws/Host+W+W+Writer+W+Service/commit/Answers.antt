@@ -32,8 +32,8 @@ put-size-requires-clause-most g c =
     let sized = c.requires.may.sized in
     omega (arith, producer, sizes, sized)
 
-pub returns-in-Ok-clause-host : goal.returns-in-Ok-clause-host
-returns-in-Ok-clause-host g c =
+pub returns-in-Ok-clause-leaves : goal.returns-in-Ok-clause-leaves
+returns-in-Ok-clause-leaves g c =
     let means = g.W.Words.means in
     let was = c.requires.host in
     let old = c.args.self.now in
@@ -41,15 +41,17 @@ returns-in-Ok-clause-host g c =
     let step = call.ensures.leaves.service.step in
     let served = served_is means old.table call.new.table old.helper.service call.new.self was.stands.served step call.ensures.leaves.service.agrees in
     let stands = served_stands means old.table call.new.table old.writers.items old.helper.service call.new.self was.stands step served in
-    opened_still means old _ was stands step.setup_stays call.ensures.leaves.service.keeps refl refl
-
-pub returns-in-Ok-clause-writers : goal.returns-in-Ok-clause-writers
-returns-in-Ok-clause-writers g c = record {
-  writers = refl;
-  flushes = refl;
-  specs = refl;
-  views = λ place core at. (c.commit.ensures.leaves.service.step.writers_stay core.seat (c.requires.host.stands.seated place core at).sits).1;
-}
+    record {
+      host = opened_still means old _ was stands step.setup_stays call.ensures.leaves.service.keeps refl refl;
+      writers = record {
+        writers = refl;
+        flushes = refl;
+        specs = refl;
+        views = λ place core at. (c.commit.ensures.leaves.service.step.writers_stay core.seat (c.requires.host.stands.seated place core at).sits).1;
+      };
+      opened = refl;
+      session = c.commit.ensures.leaves.service.keeps.fields.session;
+    }
 
 pub returns-in-Ok-clause-done : goal.returns-in-Ok-clause-done
 returns-in-Ok-clause-done g c taken =
@@ -112,8 +114,8 @@ returns-in-Ok-clause-done g c taken =
     committed_done means laws place chunk old _ was.stands.served opened call.ensures.leaves.service.step call.ensures.leaves.service.keeps target noted call.ensures.leaves.told
     c.from.result answer taken
 
-pub returns-in-Err-clause-host : goal.returns-in-Err-clause-host
-returns-in-Err-clause-host g c =
+pub returns-in-Err-clause-leaves : goal.returns-in-Err-clause-leaves
+returns-in-Err-clause-leaves g c =
     let means = g.W.Words.means in
     let was = c.requires.host in
     let old = c.args.self.now in
@@ -121,7 +123,17 @@ returns-in-Err-clause-host g c =
     let step = call.ensures.leaves.service.step in
     let served = served_is means old.table call.new.table old.helper.service call.new.self was.stands.served step call.ensures.leaves.service.agrees in
     let stands = served_stands means old.table call.new.table old.writers.items old.helper.service call.new.self was.stands step served in
-    opened_still means old _ was stands step.setup_stays call.ensures.leaves.service.keeps refl refl
+    record {
+      host = opened_still means old _ was stands step.setup_stays call.ensures.leaves.service.keeps refl refl;
+      writers = record {
+        writers = refl;
+        flushes = refl;
+        specs = refl;
+        views = λ place core at. (c.commit.ensures.leaves.service.step.writers_stay core.seat (c.requires.host.stands.seated place core at).sits).1;
+      };
+      opened = refl;
+      session = c.commit.ensures.leaves.service.keeps.fields.session;
+    }
 
 pub returns-in-Err-clause-done : goal.returns-in-Err-clause-done
 returns-in-Err-clause-done g c taken =

@@ -17,14 +17,14 @@ use Rattle.replay_host.proofs.replaying.Host+W+W+Writer+W+Service.play.Goals as 
 pub play_lines-requires-clause-begins : goal.play_lines-requires-clause-begins
 play_lines-requires-clause-begins g c =
     let means = g.W.Words.means in
-    may_begin means c.args.scenario.now c.requires.scenario c.args.self.now c.requires.made
+    may_begin means c.args.scenario.now c.requires.ready.within c.args.self.now c.requires.ready.made
     (g.O.Sink.taken c.args.out.now)
     c.args.scenario.now.lines refl
 
 pub play_lines-requires-clause-clones : goal.play_lines-requires-clause-clones
 play_lines-requires-clause-clones g c =
-    as_made g.W.Words.means c.args.scenario.now c.requires.scenario c.args.self.now c.requires.made (g.O.Sink.taken c.args.out.now)
-    c.args.scenario.now.lines refl c.args.clones.now c.requires.clones
+    as_made g.W.Words.means c.args.scenario.now c.requires.ready.within c.args.self.now c.requires.ready.made (g.O.Sink.taken c.args.out.now)
+    c.args.scenario.now.lines refl c.args.clones.now c.requires.ready.cloned
 
 pub returns-in_err-play_lines-clause-stops : goal.returns-in_err-play_lines-clause-stops
 returns-in_err-play_lines-clause-stops g c =
@@ -35,14 +35,14 @@ returns-in_err-play_lines-clause-stops g c =
     (λ fault. EndsEarly (without_clones (parts_of c.args.scenario.now)) fault (g.O.Sink.taken c.args.out.now) (g.O.Sink.taken c.play_lines.new.out))
     result_is
     (ends_without (parts_of c.args.scenario.now) found (g.O.Sink.taken c.args.out.now) (g.O.Sink.taken c.play_lines.new.out)
-    (lines_stopped means c.args.scenario.now c.requires.scenario c.args.self.now c.requires.made
+    (lines_stopped means c.args.scenario.now c.requires.ready.within c.args.self.now c.requires.ready.made
     (g.O.Sink.taken c.args.out.now)
     c.args.scenario.now.lines refl found (g.O.Sink.taken c.play_lines.new.out) c.in_err-play_lines.ensures.stops))
 
 pub play_end-requires-clause-over : goal.play_end-requires-clause-over
 play_end-requires-clause-over g c =
     let means = g.W.Words.means in
-    is_over means c.args.scenario.now c.requires.scenario c.args.self.now c.requires.made
+    is_over means c.args.scenario.now c.requires.ready.within c.args.self.now c.requires.ready.made
     (g.O.Sink.taken c.args.out.now)
     c.args.scenario.now.lines refl c.play_lines.new.self (g.O.Sink.taken c.play_lines.new.out) c.in_ok-play_lines.ensures.played
     c.len.result c.len.ensures
@@ -50,7 +50,7 @@ play_end-requires-clause-over g c =
 pub play_end-requires-clause-few : goal.play_end-requires-clause-few
 play_end-requires-clause-few g c =
     let means = g.W.Words.means in
-    few_read means c.args.scenario.now c.requires.scenario c.args.self.now c.requires.made
+    few_read means c.args.scenario.now c.requires.ready.within c.args.self.now c.requires.ready.made
     (g.O.Sink.taken c.args.out.now)
     c.args.scenario.now.lines refl c.play_lines.new.self (g.O.Sink.taken c.play_lines.new.out) c.in_ok-play_lines.ensures.played
     c.len.result c.len.ensures
@@ -64,7 +64,7 @@ returns-in_err-play_end-clause-stops g c =
     (λ fault. EndsEarly (without_clones (parts_of c.args.scenario.now)) fault (g.O.Sink.taken c.args.out.now) (g.O.Sink.taken c.play_end.new.out))
     result_is
     (ends_without (parts_of c.args.scenario.now) found (g.O.Sink.taken c.args.out.now) (g.O.Sink.taken c.play_end.new.out)
-    (end_stopped means c.args.scenario.now c.requires.scenario c.args.self.now c.requires.made
+    (end_stopped means c.args.scenario.now c.requires.ready.within c.args.self.now c.requires.ready.made
     (g.O.Sink.taken c.args.out.now)
     c.args.scenario.now.lines refl c.play_lines.new.self (g.O.Sink.taken c.play_lines.new.out) c.in_ok-play_lines.ensures.played
     c.len.result c.len.ensures found (g.O.Sink.taken c.play_end.new.out) c.in_err-play_end.ensures.stops))
@@ -78,7 +78,7 @@ count-requires-clause-host g c =
       told_writers = g.met.W.Words.told_writers;
       told_owned = g.met.W.Words.told_owned;
     } in
-    ended_host means c.args.scenario.now c.requires.scenario c.args.self.now c.requires.made
+    ended_host means c.args.scenario.now c.requires.ready.within c.args.self.now c.requires.ready.made
     (g.O.Sink.taken c.args.out.now)
     c.args.scenario.now.lines refl c.play_lines.new.self (g.O.Sink.taken c.play_lines.new.out) c.in_ok-play_lines.ensures.played
     c.len.result c.len.ensures laws c.play_end.new.self (g.O.Sink.taken c.play_end.new.out) c.in_ok-play_end.ensures.ended
@@ -92,13 +92,13 @@ count-requires-clause-tally g c =
       told_writers = g.met.W.Words.told_writers;
       told_owned = g.met.W.Words.told_owned;
     } in
-    ended_noted means c.args.scenario.now c.requires.scenario c.args.self.now c.requires.made
+    ended_noted means c.args.scenario.now c.requires.ready.within c.args.self.now c.requires.ready.made
     (g.O.Sink.taken c.args.out.now)
     c.args.scenario.now.lines refl c.play_lines.new.self (g.O.Sink.taken c.play_lines.new.out) c.in_ok-play_lines.ensures.played
     c.len.result c.len.ensures laws c.play_end.new.self (g.O.Sink.taken c.play_end.new.out) c.in_ok-play_end.ensures.ended
 
-pub count-requires-clause-buffers : goal.count-requires-clause-buffers
-count-requires-clause-buffers g c =
+pub count-requires-clause-rows : goal.count-requires-clause-rows
+count-requires-clause-rows g c =
     let means = g.W.Words.means in
     let laws : AreLaws means = record {
       told_view = g.met.W.Words.told_view;
@@ -106,48 +106,28 @@ count-requires-clause-buffers g c =
       told_writers = g.met.W.Words.told_writers;
       told_owned = g.met.W.Words.told_owned;
     } in
-    buffers_room means c.args.scenario.now c.requires.scenario c.args.self.now c.requires.made
-    (g.O.Sink.taken c.args.out.now)
-    c.args.scenario.now.lines refl c.play_lines.new.self (g.O.Sink.taken c.play_lines.new.out) c.in_ok-play_lines.ensures.played
-    c.len.result c.len.ensures laws c.play_end.new.self (g.O.Sink.taken c.play_end.new.out) c.in_ok-play_end.ensures.ended
-    c.args.done.now c.requires.buffers
-
-pub count-requires-clause-few : goal.count-requires-clause-few
-count-requires-clause-few g c =
-    let joined = c.args.scenario.now.buffers.ok.0 in
-    let room = c.requires.buffers in
-    let few = (scenario_is_set_up c.args.scenario.now c.requires.scenario).few_buffers in
-    omega (arith, joined, room, few)
-
-pub count-requires-clause-sequences : goal.count-requires-clause-sequences
-count-requires-clause-sequences g c =
-    let means = g.W.Words.means in
-    let laws : AreLaws means = record {
-      told_view = g.met.W.Words.told_view;
-      told_service_view = g.met.W.Words.told_service_view;
-      told_writers = g.met.W.Words.told_writers;
-      told_owned = g.met.W.Words.told_owned;
-    } in
-    sequences_room means c.args.scenario.now c.requires.scenario c.args.self.now c.requires.made
-    (g.O.Sink.taken c.args.out.now)
-    c.args.scenario.now.lines refl c.play_lines.new.self (g.O.Sink.taken c.play_lines.new.out) c.in_ok-play_lines.ensures.played
-    c.len.result c.len.ensures laws c.play_end.new.self (g.O.Sink.taken c.play_end.new.out) c.in_ok-play_end.ensures.ended
-    c.args.done.now c.requires.sequences
-
-pub count-requires-clause-marks : goal.count-requires-clause-marks
-count-requires-clause-marks g c =
-    let means = g.W.Words.means in
-    let laws : AreLaws means = record {
-      told_view = g.met.W.Words.told_view;
-      told_service_view = g.met.W.Words.told_service_view;
-      told_writers = g.met.W.Words.told_writers;
-      told_owned = g.met.W.Words.told_owned;
-    } in
-    marks_many means c.args.scenario.now c.requires.scenario c.args.self.now c.requires.made
-    (g.O.Sink.taken c.args.out.now)
-    c.args.scenario.now.lines refl c.play_lines.new.self (g.O.Sink.taken c.play_lines.new.out) c.in_ok-play_lines.ensures.played
-    c.len.result c.len.ensures laws c.play_end.new.self (g.O.Sink.taken c.play_end.new.out) c.in_ok-play_end.ensures.ended
-    c.args.marks.now c.requires.marks
+    record {
+      buffers = buffers_room means c.args.scenario.now c.requires.ready.within c.args.self.now c.requires.ready.made
+          (g.O.Sink.taken c.args.out.now)
+          c.args.scenario.now.lines refl c.play_lines.new.self (g.O.Sink.taken c.play_lines.new.out) c.in_ok-play_lines.ensures.played
+          c.len.result c.len.ensures laws c.play_end.new.self (g.O.Sink.taken c.play_end.new.out) c.in_ok-play_end.ensures.ended
+          c.args.done.now c.requires.ready.buffers;
+      few =
+          let joined = c.args.scenario.now.buffers.ok.0 in
+          let room = c.requires.ready.buffers in
+          let few = (scenario_is_set_up c.args.scenario.now c.requires.ready.within).few_buffers in
+          omega (arith, joined, room, few);
+      sequences = sequences_room means c.args.scenario.now c.requires.ready.within c.args.self.now c.requires.ready.made
+          (g.O.Sink.taken c.args.out.now)
+          c.args.scenario.now.lines refl c.play_lines.new.self (g.O.Sink.taken c.play_lines.new.out) c.in_ok-play_lines.ensures.played
+          c.len.result c.len.ensures laws c.play_end.new.self (g.O.Sink.taken c.play_end.new.out) c.in_ok-play_end.ensures.ended
+          c.args.done.now c.requires.ready.sequences;
+      marked = marks_many means c.args.scenario.now c.requires.ready.within c.args.self.now c.requires.ready.made
+          (g.O.Sink.taken c.args.out.now)
+          c.args.scenario.now.lines refl c.play_lines.new.self (g.O.Sink.taken c.play_lines.new.out) c.in_ok-play_lines.ensures.played
+          c.len.result c.len.ensures laws c.play_end.new.self (g.O.Sink.taken c.play_end.new.out) c.in_ok-play_end.ensures.ended
+          c.args.marks.now c.requires.ready.marked;
+    }
 
 pub returns-clause-played : goal.returns-clause-played
 returns-clause-played g c =
@@ -158,11 +138,11 @@ returns-clause-played g c =
       told_writers = g.met.W.Words.told_writers;
       told_owned = g.met.W.Words.told_owned;
     } in
-    all_cloned means c.args.scenario.now c.requires.scenario c.args.self.now c.requires.made
+    all_cloned means c.args.scenario.now c.requires.ready.within c.args.self.now c.requires.ready.made
     (g.O.Sink.taken c.args.out.now)
     c.args.scenario.now.lines refl c.play_lines.new.self (g.O.Sink.taken c.play_lines.new.out) c.in_ok-play_lines.ensures.played
     c.len.result c.len.ensures laws c.play_end.new.self (g.O.Sink.taken c.play_end.new.out) c.in_ok-play_end.ensures.ended
     c.play_lines.new.clones c.in_ok-play_lines.ensures.cloned
-    c.args.marks.now c.requires.marks c.count.new.done.buffers.items c.count.new.done.sequences.items c.count.new.self.flushes c.fill_raws.new.raws.items
+    c.args.marks.now c.requires.ready.marked c.count.new.done.buffers.items c.count.new.done.sequences.items c.count.new.self.flushes c.fill_raws.new.raws.items
     c.count.ensures.counts c.count.ensures.made c.count.ensures.room c.count.ensures.told
     (c.fill_raws.ensures ∙ ap (λ (answers : List RawAnswer). raw_lines (raw_numbers c.args.scenario.now.lines) answers) c.deref.ensures.value)

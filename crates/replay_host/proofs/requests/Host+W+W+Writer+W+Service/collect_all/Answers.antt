@@ -62,10 +62,10 @@ loop-index-preserved g c flags =
           (collected_more means flags.scenario flags.before index (index + 1) old mid w.collect.new.self (sym next) to below
           (says ∙ w.if-index.true)
           (record {
-            host = w.collect.ensures.host;
-            writers = w.collect.ensures.writers;
-            opened = w.collect.ensures.opened;
-            session = w.collect.ensures.session;
+            host = w.collect.ensures.leaves.host;
+            writers = w.collect.ensures.leaves.writers;
+            opened = w.collect.ensures.leaves.opened;
+            session = w.collect.ensures.leaves.session;
             done = w.collect.ensures.done;
           })))
       | else-index w ↦

@@ -7,23 +7,25 @@ use Rattle.replay_host.proofs.RowLemmas.{AreLaws}
 use Rattle.replay_host.proofs.ServedLemmas.{served_stands, served_is, opened_still, collect_done}
 use Rattle.replay_host.proofs.serving.Host+W+W+Writer+W+Service.collect.Goals as goal
 
-pub returns-clause-host : goal.returns-clause-host
-returns-clause-host g c =
+pub returns-clause-leaves : goal.returns-clause-leaves
+returns-clause-leaves g c =
     let means = g.W.Words.means in
     let was = c.requires.host in
     let setup : Setup = means.setup c.args.self.now.table in
     let step = c.collect.ensures.leaves.step in
     let served = served_is means c.args.self.now.table c.collect.new.table c.args.self.now.helper.service c.collect.new.self was.stands.served step c.collect.ensures.leaves.agrees in
     let stands = served_stands means c.args.self.now.table c.collect.new.table c.args.self.now.writers.items c.args.self.now.helper.service c.collect.new.self was.stands step served in
-    opened_still means c.args.self.now _ was stands step.setup_stays c.collect.ensures.leaves.keeps refl refl
-
-pub returns-clause-writers : goal.returns-clause-writers
-returns-clause-writers g c = record {
-  writers = refl;
-  flushes = refl;
-  specs = refl;
-  views = λ place core at. (c.collect.ensures.leaves.step.writers_stay core.seat (c.requires.host.stands.seated place core at).sits).1;
-}
+    record {
+      host = opened_still means c.args.self.now _ was stands step.setup_stays c.collect.ensures.leaves.keeps refl refl;
+      writers = record {
+        writers = refl;
+        flushes = refl;
+        specs = refl;
+        views = λ place core at. (c.collect.ensures.leaves.step.writers_stay core.seat (c.requires.host.stands.seated place core at).sits).1;
+      };
+      opened = refl;
+      session = c.collect.ensures.leaves.keeps.fields.session;
+    }
 
 pub returns-clause-done : goal.returns-clause-done
 returns-clause-done g c intake =

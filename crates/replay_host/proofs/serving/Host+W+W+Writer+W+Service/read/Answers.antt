@@ -8,8 +8,8 @@ use Rattle.replay_host.proofs.RowLemmas.{AreLaws}
 use Rattle.replay_host.proofs.ServedLemmas.{served_stands, served_is, opened_still}
 use Rattle.replay_host.proofs.serving.Host+W+W+Writer+W+Service.read.Goals as goal
 
-pub returns-in-Ok-clause-host : goal.returns-in-Ok-clause-host
-returns-in-Ok-clause-host g c =
+pub returns-in-Ok-clause-leaves : goal.returns-in-Ok-clause-leaves
+returns-in-Ok-clause-leaves g c =
     let means = g.W.Words.means in
     let was = c.requires.host in
     let old = c.args.self.now in
@@ -22,15 +22,17 @@ returns-in-Ok-clause-host g c =
     (read_moment before (g.O.Sink.taken c.args.out.now)) (read_moment view (g.O.Sink.taken call.new.out)))) c.in-Ok.is call.ensures.reads in
     let served = served_is means old.table call.new.table old.helper.service call.new.self was.stands.served step call.ensures.leaves.service.agrees in
     let stands = served_stands means old.table call.new.table old.writers.items old.helper.service call.new.self was.stands step served in
-    opened_still means old _ was stands step.setup_stays call.ensures.leaves.service.keeps refl refl
-
-pub returns-in-Ok-clause-writers : goal.returns-in-Ok-clause-writers
-returns-in-Ok-clause-writers g c = record {
-  writers = refl;
-  flushes = refl;
-  specs = refl;
-  views = λ place core at. (c.read_buffer.ensures.leaves.service.step.writers_stay core.seat (c.requires.host.stands.seated place core at).sits).1;
-}
+    record {
+      host = opened_still means old _ was stands step.setup_stays call.ensures.leaves.service.keeps refl refl;
+      writers = record {
+        writers = refl;
+        flushes = refl;
+        specs = refl;
+        views = λ place core at. (c.read_buffer.ensures.leaves.service.step.writers_stay core.seat (c.requires.host.stands.seated place core at).sits).1;
+      };
+      opened = refl;
+      session = c.read_buffer.ensures.leaves.service.keeps.fields.session;
+    }
 
 pub returns-in-Ok-clause-done : goal.returns-in-Ok-clause-done
 returns-in-Ok-clause-done g c =
@@ -51,8 +53,8 @@ returns-in-Ok-clause-done g c =
     read_done means laws c.args.buffer c.args.limit _ old _ (g.O.Sink.taken c.args.out.now) (g.O.Sink.taken call.new.out)
     c.requires.host.stands.served call.ensures.leaves.service.step call.ensures.leaves.service.keeps reads call.ensures.leaves.told
 
-pub returns-in-Err-clause-host : goal.returns-in-Err-clause-host
-returns-in-Err-clause-host g c =
+pub returns-in-Err-clause-leaves : goal.returns-in-Err-clause-leaves
+returns-in-Err-clause-leaves g c =
     let means = g.W.Words.means in
     let was = c.requires.host in
     let old = c.args.self.now in
@@ -65,15 +67,17 @@ returns-in-Err-clause-host g c =
     (read_moment before (g.O.Sink.taken c.args.out.now)) (read_moment view (g.O.Sink.taken call.new.out)))) c.in-Err.is call.ensures.fails in
     let served = served_is means old.table call.new.table old.helper.service call.new.self was.stands.served step call.ensures.leaves.service.agrees in
     let stands = served_stands means old.table call.new.table old.writers.items old.helper.service call.new.self was.stands step served in
-    opened_still means old _ was stands step.setup_stays call.ensures.leaves.service.keeps refl refl
-
-pub returns-in-Err-clause-writers : goal.returns-in-Err-clause-writers
-returns-in-Err-clause-writers g c = record {
-  writers = refl;
-  flushes = refl;
-  specs = refl;
-  views = λ place core at. (c.read_buffer.ensures.leaves.service.step.writers_stay core.seat (c.requires.host.stands.seated place core at).sits).1;
-}
+    record {
+      host = opened_still means old _ was stands step.setup_stays call.ensures.leaves.service.keeps refl refl;
+      writers = record {
+        writers = refl;
+        flushes = refl;
+        specs = refl;
+        views = λ place core at. (c.read_buffer.ensures.leaves.service.step.writers_stay core.seat (c.requires.host.stands.seated place core at).sits).1;
+      };
+      opened = refl;
+      session = c.read_buffer.ensures.leaves.service.keeps.fields.session;
+    }
 
 pub returns-in-Err-clause-fails : goal.returns-in-Err-clause-fails
 returns-in-Err-clause-fails g c =

@@ -8,8 +8,8 @@ use Rattle.replay_host.proofs.ScrapedLemmas.{scrape_done}
 use Rattle.replay_host.proofs.ServedLemmas.{served_stands, served_is, opened_still}
 use Rattle.replay_host.proofs.serving.Host+W+W+Writer+W+Service.scrape.Goals as goal
 
-pub returns-clause-host : goal.returns-clause-host
-returns-clause-host g c =
+pub returns-clause-leaves : goal.returns-clause-leaves
+returns-clause-leaves g c =
     let means = g.W.Words.means in
     let was = c.requires.host in
     let setup : Setup = means.setup c.args.self.now.table in
@@ -18,15 +18,17 @@ returns-clause-host g c =
     let new = c.scrape.new in
     let served = served_is means old.table new.table old.helper.service new.self was.stands.served step c.scrape.ensures.leaves.agrees in
     let stands = served_stands means old.table new.table old.writers.items old.helper.service new.self was.stands step served in
-    opened_still means old _ was stands step.setup_stays c.scrape.ensures.leaves.keeps refl refl
-
-pub returns-clause-writers : goal.returns-clause-writers
-returns-clause-writers g c = record {
-  writers = refl;
-  flushes = refl;
-  specs = refl;
-  views = λ place core at. (c.scrape.ensures.leaves.step.writers_stay core.seat (c.requires.host.stands.seated place core at).sits).1;
-}
+    record {
+      host = opened_still means old _ was stands step.setup_stays c.scrape.ensures.leaves.keeps refl refl;
+      writers = record {
+        writers = refl;
+        flushes = refl;
+        specs = refl;
+        views = λ place core at. (c.scrape.ensures.leaves.step.writers_stay core.seat (c.requires.host.stands.seated place core at).sits).1;
+      };
+      opened = refl;
+      session = c.scrape.ensures.leaves.keeps.fields.session;
+    }
 
 pub returns-clause-done : goal.returns-clause-done
 returns-clause-done g c intake =
