@@ -1,5 +1,5 @@
 -- The faults of a stream.
-use Rattle.std.specs.Prelude.{◌≡◌, ℕ, ◌≤◌, Result, Ok, Err}
+use Rattle.std.specs.Prelude.{◌≡◌, ℕ, ◌≤◌, Result, Ok, Err, OnOk, IfErr}
 use Rattle.byte_io.specs.Bytes.{Faulted}
 use Rattle.stream_frames.specs.declared.check.FrameFault.{FrameFault}
 use Rattle.stream_frames.specs.declared.check.FrameFault.TheVariants as frames
@@ -32,3 +32,9 @@ abbrev pub UnlessFailed : Type 0 → StreamFault → Type 0
 UnlessFailed Holds WriteFault = Unit {0}
 UnlessFailed Holds (BadFrame offset) = Holds
 UnlessFailed Holds (NoEnd offset) = Holds
+
+-- how a call left its sink: its faults are counted, and it may be written to still, but where a write failed
+pub record LeavesSink {T : Type 0} (old : ℕ) (answer : Result T StreamFault) (new : ℕ) (MayWrite : Type 0) : Type 0 where
+  pub count : CountsWrites old new answer
+  pub goes_on : OnOk answer MayWrite
+  pub goes_on_behind : IfErr answer (UnlessFailed MayWrite)

@@ -1,5 +1,5 @@
 -- A stream producer between two pieces, and what it does with a piece.
-use Rattle.std.specs.Prelude.{◌≡◌, ℕ, ◌+◌, ◌^◌, ◌<◌, ◌≤◌, false, List, [], length, drop, vec_len, Ok, Err}
+use Rattle.std.specs.Prelude.{◌≡◌, ℕ, ◌+◌, ◌^◌, ◌<◌, ◌≤◌, false, List, [], ◌++◌, length, drop, vec_len, Result, Ok, Err, OnOk, IfErr}
 use Rattle.byte_io.specs.Bytes.{Intake, after_told, TakesPart}
 use Rattle.trace_base.specs.declared.limits.TheConstants.{MAX_BUFFERS, MAX_WRITERS}
 use Rattle.trace_model.specs.Counts.{raised}
@@ -122,3 +122,21 @@ StopsStream means config stream core start taken WriteFault =
 StopsStream means config stream core start taken (BadFrame offset) =
     ((fed (config_limits config) beginning stream).ends ≡ Err offset) × IsTraceOf means config stream core start taken
 StopsStream means config stream core start taken (NoEnd offset) = ⊥
+
+-- a producer, and what its sink has taken
+pub record FeedMoment (T S : Type 0) : Type 0 where
+  pub core : StreamCore T S
+  pub taken : Intake
+
+-- the moment at which these stand so
+abbrev pub at_feed : {T S : Type 0} → StreamCore T S → Intake → FeedMoment T S
+at_feed core taken = record { core = core; taken = taken }
+
+-- This stream was taken before the piece, and now with the piece: so has the sink its records. A fault is one of the whole stream.
+pub record FeedsStream {T W S : Type 0} (means : Meaning T W S) (config : ConfigOf) (stream piece : List ℕ) (before : FeedMoment T S)
+    (answer : Result (Unit {0}) StreamFault) (behind : FeedMoment T S) : Type 0 where
+  pub taken : OnOk answer (HasTaken means config (stream ++ piece) behind.core)
+  pub trace : (start : Intake) → IsTraceOf means config stream before.core start before.taken
+      → OnOk answer (IsTraceOf means config (stream ++ piece) behind.core start behind.taken)
+  pub stops : (start : Intake) → IsTraceOf means config stream before.core start before.taken
+      → IfErr answer (StopsStream means config (stream ++ piece) before.core start behind.taken)

@@ -1,17 +1,29 @@
 -- A whole stream, from its first frame to its end.
-use Rattle.std.specs.Prelude.{◌≡◌, ℕ, List, map}
-use Rattle.byte_io.specs.Bytes.{Intake, after_told}
+use Rattle.std.specs.Prelude.{◌≡◌, ℕ, ◌^◌, ◌<◌, List, length, map, Result, Ok, IfOk, OnOk, OnErr}
+use Rattle.byte_io.specs.declared.put.WriteFault.{WriteFault}
+use Rattle.byte_io.specs.Bytes.{Intake, after_told, TakesPart}
 use Rattle.trace_model.specs.Counts.{raised}
 use Rattle.trace_model.specs.Delivery.{trace_of}
 use Rattle.trace_model.specs.History.{Event, buffers_after, records_after}
+use Rattle.chunk_plain.specs.Meaning.{Meaning}
 use Rattle.chunk_plain.specs.Setup.{Setup}
 use Rattle.trace_buffer.specs.Answers.{counts_of}
 use Rattle.config_text.specs.Configs.{ConfigOf}
-use Rattle.stream_frames.specs.Framing.{frames_of}
+use Rattle.stream_frames.specs.Framing.{beginning, frames_of, verdict_on}
+use Rattle.stream_frames.specs.Values.{limits_of, feeding_of}
+use Rattle.stream_producer.specs.declared.producer.StreamCore.{StreamCore}
 use Rattle.stream_producer.specs.declared.producer.StreamDone.{StreamDone}
 use Rattle.stream_producer.specs.Counting.{counts_from}
+use Rattle.stream_producer.specs.Feeding.{IsFeeding}
 use Rattle.stream_producer.specs.History.{commits_in, refused_in, stream_history}
 use Rattle.stream_producer.specs.Setups.{config_buffers, config_limits}
+
+-- the producer is at the beginning of a stream, and this one has no fault
+pub record MayPlayWhole {T W S : Type 0} (means : Meaning T W S) (core : StreamCore T S) (stream : List ℕ) : Type 0 where
+  pub feeding : IsFeeding means core
+  pub start : feeding_of core.reader ≡ beginning
+  pub right : verdict_on (limits_of core.reader) stream ≡ Ok tt
+  pub fits : length stream < 2 ^ 64
 
 -- the history of a stream under a configuration, with its end
 abbrev pub stream_events : ConfigOf → Setup → List ℕ → List Event
@@ -30,6 +42,13 @@ pub record CountsStream (config : ConfigOf) (setup : Setup) (stream : List ℕ) 
   pub commits : done.commits ≡ raised 0 (commits_in (frames_of (config_limits config) stream))
   pub refused : done.refused
       ≡ raised 0 (refused_in setup (config_limits config) (config_buffers config setup) (frames_of (config_limits config) stream))
+
+-- It was played: the sink took all of its records, and its counts are answered; or a write failed, and the sink took a front part of them.
+pub record PlaysWhole (config : ConfigOf) (setup : Setup) (stream : List ℕ) (before : Intake) (answer : Result StreamDone WriteFault) (after : Intake) : Type 0
+  where
+    pub counts : IfOk answer (CountsStream config setup stream)
+    pub all : OnOk answer (after ≡ after_told before (stream_trace config setup stream))
+    pub part : OnErr answer (TakesPart before after (stream_trace config setup stream))
 
 -- whatever came of it, the sink took some bytes, and nothing else
 pub record TakesBytes (old new : Intake) : Type 0 where

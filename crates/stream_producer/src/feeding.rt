@@ -1,10 +1,9 @@
 //! A piece of a stream that is played.
-ghost use Rattle.std.specs.Prelude.{◌≡◌, ℕ, ◌+◌, ◌^◌, ◌<◌, List, ◌++◌, length, IfOk, OnOk, IfErr};
+ghost use Rattle.std.specs.Prelude.{◌≡◌, ℕ, ◌+◌, ◌^◌, ◌<◌, List, length, IfOk, OnOk, IfErr};
 ghost use Rattle.config_text.specs.Configs.{ConfigOf};
-ghost use Rattle.byte_io.specs.Bytes.{Intake};
 ghost use Rattle.stream_frames.specs.Framing.{fed, by_front, front_of};
 ghost use Rattle.stream_frames.specs.Values.{limits_of, feeding_of};
-ghost use Rattle.stream_producer.specs.Faults.{CountsWrites, UnlessFailed};
+ghost use Rattle.stream_producer.specs.Faults.{LeavesSink};
 
 use crate::fault::StreamFault;
 use crate::producer::StreamCore;
@@ -13,7 +12,7 @@ use chunk_plain::Words;
 use stream_frames::{Front, front_of};
 
 impl<W: Words> StreamCore<W, W::Service> {
-    ghost use Rattle.stream_producer.specs.Feeding.{IsFeeding, HasAtMostOneFrame, Feeds, FeedsSome, Stops, HasTaken, IsTraceOf, StopsStream};
+    ghost use Rattle.stream_producer.specs.Feeding.{IsFeeding, HasAtMostOneFrame, Feeds, FeedsSome, Stops, HasTaken, FeedsStream, at_feed};
 
     /// Plays the frame that stands whole in the reader, if there is one. It is apart, as most frames stand
     /// whole in their pieces.
@@ -29,9 +28,7 @@ impl<W: Words> StreamCore<W, W::Service> {
             (by_front (feeding_of self.old.reader).at (feeding_of self.old.reader).have
             (front_of (limits_of self.old.reader) (feeding_of self.old.reader).have))
             self.old self.new (O.taken out.old) (O.taken out.new)) }
-        ensures count { CountsWrites (O.faults out.old) (O.faults out.new) result }
-        ensures goes_on { OnOk result (O.may_write out.new) }
-        ensures goes_on_behind { IfErr result (UnlessFailed (O.may_write out.new)) }
+        ensures sink { LeavesSink (O.faults out.old) result (O.faults out.new) (O.may_write out.new) }
     {
         match self.reader.front() {
             Front::Short => Ok(()),
@@ -57,9 +54,7 @@ impl<W: Words> StreamCore<W, W::Service> {
         ensures feeds { IfOk result (λ count. FeedsSome W.means piece.now count self.old self.new (O.taken out.old) (O.taken out.new)) }
         ensures stops { IfErr result (Stops W.means (fed (limits_of self.old.reader) (feeding_of self.old.reader) piece.now)
             self.old self.new (O.taken out.old) (O.taken out.new)) }
-        ensures count { CountsWrites (O.faults out.old) (O.faults out.new) result }
-        ensures goes_on { OnOk result (O.may_write out.new) }
-        ensures goes_on_behind { IfErr result (UnlessFailed (O.may_write out.new)) }
+        ensures sink { LeavesSink (O.faults out.old) result (O.faults out.new) (O.may_write out.new) }
     {
         if self.reader.is_closed() {
             let offset = self.reader.offset();
@@ -92,18 +87,10 @@ impl<W: Words> StreamCore<W, W::Service> {
 
         // Whatever pieces came before, this is the stream of them all with the piece.
         ensures stream { (config : ConfigOf) (stream : List ℕ) → HasTaken W.means config stream self.old
-            → OnOk result (HasTaken W.means config (stream ++ piece.now) self.new) }
-        ensures trace { (config : ConfigOf) (stream : List ℕ) (start : Intake) → HasTaken W.means config stream self.old
-            → IsTraceOf W.means config stream self.old start (O.taken out.old)
-            → OnOk result (IsTraceOf W.means config (stream ++ piece.now) self.new start (O.taken out.new)) }
-        ensures stops_stream { (config : ConfigOf) (stream : List ℕ) (start : Intake) → HasTaken W.means config stream self.old
-            → IsTraceOf W.means config stream self.old start (O.taken out.old)
-            → IfErr result (StopsStream W.means config (stream ++ piece.now) self.old start (O.taken out.new)) }
+            → FeedsStream W.means config stream piece.now (at_feed self.old (O.taken out.old)) result (at_feed self.new (O.taken out.new)) }
         ensures counted { OnOk result ((feeding_of self.new.reader).at + length (feeding_of self.new.reader).have
             ≡ (feeding_of self.old.reader).at + length (feeding_of self.old.reader).have + length piece.now) }
-        ensures count { CountsWrites (O.faults out.old) (O.faults out.new) result }
-        ensures goes_on { OnOk result (O.may_write out.new) }
-        ensures goes_on_behind { IfErr result (UnlessFailed (O.may_write out.new)) }
+        ensures sink { LeavesSink (O.faults out.old) result (O.faults out.new) (O.may_write out.new) }
     {
         let mut at = 0;
         while at < piece.len() {

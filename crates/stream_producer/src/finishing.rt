@@ -1,8 +1,8 @@
 //! A stream that is finished.
-ghost use Rattle.std.specs.Prelude.{List, ℕ, IfOk, IfErr, OnOk};
+ghost use Rattle.std.specs.Prelude.{List, ℕ, IfOk, IfErr};
 ghost use Rattle.config_text.specs.Configs.{ConfigOf};
 ghost use Rattle.byte_io.specs.Bytes.{Intake};
-ghost use Rattle.stream_producer.specs.Faults.{CountsWrites, UnlessFailed};
+ghost use Rattle.stream_producer.specs.Faults.{LeavesSink};
 
 use crate::fault::StreamFault;
 use crate::producer::{StreamCore, StreamDone};
@@ -29,9 +29,7 @@ where
             → IsTraceOf W.means config stream self start (O.taken out.old)
             → IfOk result (λ done. FinishesStream W.means config stream self start (O.taken out.new) done) }
         ensures no_end { (config : ConfigOf) (stream : List ℕ) → HasTaken W.means config stream self → IfErr result (IsAtLength stream) }
-        ensures count { CountsWrites (O.faults out.old) (O.faults out.new) result }
-        ensures goes_on { OnOk result (O.may_write out.new) }
-        ensures goes_on_behind { IfErr result (UnlessFailed (O.may_write out.new)) }
+        ensures sink { LeavesSink (O.faults out.old) result (O.faults out.new) (O.may_write out.new) }
     {
         let StreamCore {
             reader,

@@ -7,7 +7,7 @@ use Rattle.stream_frames.specs.Values.{frame_value, feeding_of}
 use Rattle.stream_producer.specs.declared.fault.StreamFault.TheVariants.{WriteFault}
 use Rattle.stream_producer.specs.Standing.{Plays, due_of}
 use Rattle.stream_producer.proofs.PlaceLemmas.{no_bytes, place_fits, place_fed, place_fails}
-use Rattle.stream_producer.proofs.ResultLemmas.{if_err_is}
+use Rattle.stream_producer.proofs.ResultLemmas.{if_err_is, sink_left}
 use Rattle.stream_producer.proofs.TakeLemmas.{at_most_one_there, some_fed, some_stops, closed_stops}
 use Rattle.stream_producer.proofs.feeding.StreamCore+W+W+Service.feed_some.Goals as goal
 
@@ -86,9 +86,10 @@ returns-in-Whole-clause-feeds g c =
     (record { reader = c.pass.new.self; player = c.play.new.self; done = old.done }) before after plays c.pass.ensures.limits refl next
     c.pass.ensures.reading
 
-pub returns-in_err-play_front-clause-goes_on_behind : goal.returns-in_err-play_front-clause-goes_on_behind
-returns-in_err-play_front-clause-goes_on_behind g c =
+pub returns-in_err-play_front-clause-sink : goal.returns-in_err-play_front-clause-sink
+returns-in_err-play_front-clause-sink g c =
     let found = c.in_err-play_front.field-0.0 in
     let answer = c.from_residual-in_err-play_front.result in
     let result_is : answer ≡ Err found = search rules in
-    if_err_is answer found _ result_is c.in_err-play_front.ensures.goes_on_behind
+    sink_left answer found (g.O.Sink.faults c.args.out.now) (g.O.Sink.faults c.args.out.now) (g.O.Sink.faults c.play_front.new.out) _
+    result_is refl c.in_err-play_front.ensures.sink
