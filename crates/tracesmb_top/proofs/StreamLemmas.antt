@@ -1,12 +1,15 @@
 -- A stream that is played isn't refused.
 use Rattle.std.proofs.Common.{◌≡◌, ◌∙◌, ℕ, List, ◌∷◌, ◌++◌, Option, Some, Result, Ok, Err, inl, inr, sym, ap, subst}
-use Rattle.byte_io.specs.Bytes.{Intake, Loan, told, untold, lent_by}
+use Rattle.byte_io.specs.declared.put.WriteFault.{WriteFault}
+use Rattle.byte_io.specs.Bytes.{Intake, Loan, told, untold, lent_by, TakesPart}
+use Rattle.chunk_plain.specs.Setup.{Setup}
 use Rattle.config_text.specs.Configs.{ConfigOf}
 use Rattle.config_text.proofs.OneLemmas.{answers_are_one}
 use Rattle.stream_frames.specs.declared.check.FrameFault.{FrameFault}
 use Rattle.stream_frames.specs.Framing.{verdict_on}
 use Rattle.stream_producer.specs.Setups.{config_limits}
-use Rattle.stream_producer.specs.Whole.{TakesBytes}
+use Rattle.stream_producer.specs.declared.producer.StreamDone.{StreamDone}
+use Rattle.stream_producer.specs.Whole.{PlaysWhole, TakesBytes, stream_trace}
 use Rattle.tracesmb_top.specs.Checked.{divider_of, text_before, trace_behind}
 use Rattle.tracesmb_top.specs.Streamed.{IsStreamFor, IsStreamRefusal, RefusesDivided, RefusesStreamAt}
 
@@ -35,3 +38,9 @@ took_loan loan loan' (untold loans) (told second loans') took =
     let same : told second (loan' ∷ loans') ≡ untold (loan ∷ loans) = took.taken in absurd cc
 took_loan loan loan' (untold loans) (untold loans') took =
     let same : untold (loan' ∷ loans') ≡ untold (loan ∷ loans) = took.taken in cc
+
+-- where a write failed, the stream was played in part
+pub played_part : (config : ConfigOf) (setup : Setup) (stream : List ℕ) (old : Intake) (answer : Result StreamDone WriteFault) (fault : WriteFault) (new : Intake)
+    → answer ≡ Err fault → TakesPart old new (stream_trace config setup stream) → PlaysWhole config setup stream old answer new
+played_part config setup stream old answer fault new is part =
+    subst (λ (r : Result StreamDone WriteFault). PlaysWhole config setup stream old r new) (sym is) (record { counts = tt; all = tt; part = part })

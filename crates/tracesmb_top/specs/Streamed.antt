@@ -1,6 +1,7 @@
 -- What `stream` does with an input: a configuration text, a line `==`, and the frames of a stream of commits.
-use Rattle.std.specs.Prelude.{◌≡◌, ℕ, ◌+◌, ◌-◌, ◌==◌, ◌⊎◌, List, [], ◌++◌, length, not, Bool, false, count_by, slice_get, Option, Some, None, Ok, Err, codes}
-use Rattle.byte_io.specs.Bytes.{Intake, after_told, TakesPart}
+use Rattle.std.specs.Prelude.{◌≡◌, ℕ, ◌+◌, ◌-◌, ◌==◌, ◌⊎◌, List, [], ◌++◌, length, not, Bool, false, count_by, slice_get, Option, Some, None, Result, Ok, Err, IfOk, OnOk, OnErr, codes}
+use Rattle.byte_io.specs.declared.put.WriteFault.{WriteFault}
+use Rattle.byte_io.specs.Bytes.{Intake, after_told, TakesPart, HandsOn}
 use Rattle.trace_model.specs.Counts.{one_if}
 use Rattle.chunk_plain.specs.Setup.{Setup}
 use Rattle.loss_report.specs.Report.{report_text}
@@ -111,6 +112,13 @@ pub record PlaysStream (text stream : List ℕ) (old new : Intake) (report : Lis
   pub counts : CountsStream config setup stream done
   pub report_is : report ≡ stream_text done
   pub taken : new ≡ after_told old (stream_trace config setup stream)
+
+-- It was played, and the last pieces of its trace wait: the sink took its records but for those, or a front part where a write failed.
+pub record GathersStream (config : ConfigOf) (setup : Setup) (stream : List ℕ) (old : Intake) (answer : Result StreamDone WriteFault) (new : Intake)
+    (waits : List ℕ) : Type 0 where
+  pub counts : IfOk answer (CountsStream config setup stream)
+  pub all : OnOk answer (HandsOn old new (stream_trace config setup stream) waits)
+  pub part : OnErr answer (TakesPart old new (stream_trace config setup stream))
 
 -- The trace took a front part of the records.
 pub record PlaysFront (text stream : List ℕ) (old new : Intake) : Type 0 where

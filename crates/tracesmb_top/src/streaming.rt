@@ -2,17 +2,16 @@
 //! the buffers that the text asks for.
 ghost use Rattle.std.specs.Prelude.{◌≡◌, ◌+◌, ◌≤◌, [], Ok, Err, length, IfOk, IfSome, IfNone, OnOk, OnErr};
 ghost use Rattle.byte_io.specs.Buffered.{pending_bytes};
-ghost use Rattle.byte_io.specs.Bytes.{after_told, CountsFaults, HandsOn, TakesPart};
+ghost use Rattle.byte_io.specs.Bytes.{after_told, CountsFaults, TakesPart};
 ghost use Rattle.config_text.specs.Configs.{ConfigOf, parts_of};
 ghost use Rattle.config_text.specs.Writing.{IsWritable};
-ghost use Rattle.stream_frames.specs.Framing.{beginning, verdict_on};
-ghost use Rattle.stream_frames.specs.Values.{feeding_of, limits_of};
-ghost use Rattle.stream_producer.specs.Feeding.{IsFeeding, IsMadeFor};
+ghost use Rattle.stream_frames.specs.Framing.{verdict_on};
+ghost use Rattle.stream_producer.specs.Feeding.{IsMadeFor};
 ghost use Rattle.stream_producer.specs.Setups.{config_limits};
-ghost use Rattle.stream_producer.specs.Whole.{CountsStream, stream_trace};
+ghost use Rattle.stream_producer.specs.Whole.{MayPlayWhole, PlaysWhole};
 ghost use Rattle.tracesmb_top.specs.Commands.{CountsWrites, Ended, EndsDivided};
 ghost use Rattle.tracesmb_top.specs.Streamed as streamed;
-ghost use Rattle.tracesmb_top.specs.Streamed.{HasFault, stream_text};
+ghost use Rattle.tracesmb_top.specs.Streamed.{GathersStream, HasFault, stream_text};
 
 use crate::check::find_divider;
 use crate::cloning::{LINE_ROOM, push_number};
@@ -112,20 +111,12 @@ fn play_gathered<W: Words + Drop, T: Sink>(
 ) -> Result<StreamDone, WriteFault>
 where
     W::Service: Drop,
-    requires feeding { IsFeeding W.means producer }
-    requires start { feeding_of producer.reader ≡ beginning }
-    requires right { verdict_on (limits_of producer.reader) stream.now ≡ Ok tt }
-    requires short { length stream.now ≤ MAX_INPUT }
+    requires whole { MayPlayWhole W.means producer stream.now }
     requires empty { pending_bytes pending.old ≡ [] }
     requires may { T.may_write trace.old }
-    ensures counts { (config : ConfigOf) → IsMadeFor W.means config producer
-        → IfOk result (CountsStream config (W.means.setup producer.player.table) stream.now) }
-    ensures all { (config : ConfigOf) → IsMadeFor W.means config producer
-        → OnOk result (HandsOn (T.taken trace.old) (T.taken trace.new)
-        (stream_trace config (W.means.setup producer.player.table) stream.now) (pending_bytes pending.new)) }
-    ensures part { (config : ConfigOf) → IsMadeFor W.means config producer
-        → OnErr result (TakesPart (T.taken trace.old) (T.taken trace.new)
-        (stream_trace config (W.means.setup producer.player.table) stream.now)) }
+    ensures gathers { (config : ConfigOf) → IsMadeFor W.means config producer
+        → GathersStream config (W.means.setup producer.player.table) stream.now (T.taken trace.old) result (T.taken trace.new)
+        (pending_bytes pending.new) }
     ensures count { CountsFaults (T.faults trace.old) (T.faults trace.new) result }
     ensures goes_on { OnOk result (T.may_write trace.new) }
 {
@@ -142,20 +133,11 @@ fn write_stream<W: Words + Drop, T: Sink>(
 ) -> Result<StreamDone, WriteFault>
 where
     W::Service: Drop,
-    requires feeding { IsFeeding W.means producer }
-    requires start { feeding_of producer.reader ≡ beginning }
-    requires right { verdict_on (limits_of producer.reader) stream.now ≡ Ok tt }
-    requires short { length stream.now ≤ MAX_INPUT }
+    requires whole { MayPlayWhole W.means producer stream.now }
     requires empty { pending_bytes pending.old ≡ [] }
     requires may { T.may_write trace.old }
-    ensures counts { (config : ConfigOf) → IsMadeFor W.means config producer
-        → IfOk result (CountsStream config (W.means.setup producer.player.table) stream.now) }
-    ensures all { (config : ConfigOf) → IsMadeFor W.means config producer
-        → OnOk result (T.taken trace.new
-        ≡ after_told (T.taken trace.old) (stream_trace config (W.means.setup producer.player.table) stream.now)) }
-    ensures part { (config : ConfigOf) → IsMadeFor W.means config producer
-        → OnErr result (TakesPart (T.taken trace.old) (T.taken trace.new)
-        (stream_trace config (W.means.setup producer.player.table) stream.now)) }
+    ensures plays { (config : ConfigOf) → IsMadeFor W.means config producer
+        → PlaysWhole config (W.means.setup producer.player.table) stream.now (T.taken trace.old) result (T.taken trace.new) }
     ensures count { CountsFaults (T.faults trace.old) (T.faults trace.new) result }
 {
     let done = play_gathered(producer, stream, pending, trace)?;
