@@ -20,15 +20,17 @@ use Rattle.trace_writer.specs.declared.route.Route.{Route}
 use Rattle.trace_writer.specs.declared.writer.WriterCore.{WriterCore}
 use Rattle.trace_writer.specs.Asked.{begun_as, written_as, noted_as, stops_with}
 use Rattle.trace_writer.specs.Calling.{packet_fault, fault_at}
-use Rattle.trace_writer.specs.Core.{is_stalled, route_of, refusal_of}
+use Rattle.trace_writer.specs.Core.{in_packet, is_stalled, route_of, refusal_of}
 use Rattle.trace_writer.specs.Helping.{loses, rounds_for}
 use Rattle.trace_writer.specs.Laws.{DropsNeverStall}
 use Rattle.trace_writer.specs.Losing.{LosesBehind}
+use Rattle.thread_writer.specs.declared.helper.Asks.{Asks}
 use Rattle.thread_writer.specs.declared.writer.TraceWriter.{TraceWriter}
-use Rattle.thread_writer.specs.Writing.{core_of, view_in, Writes, IsCall, IsQuietCall, Caller, moment_on}
+use Rattle.thread_writer.specs.Writing.{core_of, view_in, Writes, IsCall, IsQuietCall, Caller, caller, moment_on}
 use Rattle.tracesmb_c.specs.declared.writer.OwnedWriter.{OwnedWriter}
 use Rattle.tracesmb_c.specs.declared.codes.TheConstants.{OK, REFUSED}
-use Rattle.tracesmb_c.specs.Lending.{field_answer, table_of, view_of, IsReady, IsOutOfChunks, Notes, NotesField, Stays, noted_begin}
+use Rattle.tracesmb_c.specs.Lending.{field_answer, table_of, view_of, IsReady, IsOutOfChunks}
+use Rattle.tracesmb_c.specs.Lending.{Notes, NotesField, Stays, WritesField, noted_begin}
 
 -- the same handle's writer, as a call leaves it
 abbrev pub behind : OwnedWriter → TraceWriter → OwnedWriter
@@ -187,6 +189,48 @@ begin_noted old new begun ready calls = record {
     named : (b : BegunPacket) → begun_as (stops_with (answered b)) Drops ≡ noted_begin b
     named Kept = refl
     named Dropping = refl
+
+-- ---- what a call of it leaves
+
+module _ {A H : Type 0} {helps : H → ℕ → Bool → H → Type 0} {of_table : H → TableId → Type 0} {call : Call} {stopped : Bool} {table : Shared}
+    {help left : Asks H} {steps later : ℕ} (never : DropsNeverStall) (old : OwnedWriter) (new : TraceWriter) (answer : Result A CallFault)
+    (ready : IsReady old) (same : table.table.now ≡ table_of old)
+    (did : IsCall helps of_table call stopped table (caller old.writer help steps) answer (caller new left later)) where
+  -- it goes on before the call
+  pub going : is_stalled (core_of old.writer) ≡ false
+  going = goes never old ready
+
+  -- it is ready behind it
+  pub again : IsReady (behind old new)
+  again = ready_again old table.table.now new ready same did.may_call.writes did.made.route (place_stays did ready.drops)
+
+  -- and goes on
+  pub on : is_stalled (core_of new) ≡ false
+  on = goes never (behind old new) again
+
+-- a field was written or refused
+pub writes_field : {H : Type 0} {helps : H → ℕ → Bool → H → Type 0} {of_table : H → TableId → Type 0} {stopped : Bool} {table : Shared}
+    {help left : Asks H} {steps later : ℕ} (never : DropsNeverStall) (old : OwnedWriter) (new : TraceWriter) (call : Call)
+    (answer : Result (Unit {0}) CallFault) → IsReady old → table.table.now ≡ table_of old
+    → IsCall helps of_table call stopped table (caller old.writer help steps) answer (caller new left later)
+    → noted_as stopped Drops call ≡ written_as stopped Drops call → in_packet (view_in new) ≡ true
+    → WritesField call answer old (behind old new)
+writes_field {stopped = stopped} never old new call answer ready same did written begun =
+    let reason = packet_fault (view_of old) call in
+    let went = going never old new answer ready same did in
+    let goes_on = on never old new answer ready same did in
+    record {
+      ready = again never old new answer ready same did;
+      notes = field_noted old new call stopped answer ready
+          (subst (λ (noted : List Call). IfOk answer (λ _. (view_in new).calls ≡ (view_of old).calls ++ noted)) (as_written ready.drops)
+          (noted_if_ok answer reason refl did went));
+      refused = refused_noted old new answer (same_if_refused answer reason refl did went goes_on);
+      reason = reason_is answer reason refl did went goes_on;
+      begun = begun;
+    }
+  where
+    as_written : {policy : WriterPolicy} → policy ≡ Drops → noted_as stopped policy call ≡ written_as stopped policy call
+    as_written is = subst (λ (p : WriterPolicy). noted_as stopped p call ≡ written_as stopped p call) (sym is) written
 
 -- a call that needs no chunk was noted
 pub quiet_noted : (old : OwnedWriter) (new : TraceWriter) (table : Shared) (noted : List Call) → is_stalled (core_of old.writer) ≡ false

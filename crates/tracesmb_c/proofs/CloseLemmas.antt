@@ -54,7 +54,8 @@ use Rattle.tracesmb_c.specs.declared.session.Counted.{Counted}
 use Rattle.tracesmb_c.specs.declared.session.OwnedSession.{OwnedSession}
 use Rattle.tracesmb_c.specs.Losing.{buffer_for, losses_at, losses_of}
 use Rattle.tracesmb_c.specs.Sessions.{session_table, known_in, records_in, emitted_in, counts_in, counts_told, IsLost, IsSession}
-use Rattle.tracesmb_c.specs.Sessions.{HasEnded, none_counted}
+use Rattle.tracesmb_c.specs.Ending.{none_counted}
+use Rattle.tracesmb_c.specs.Sessions.{HasEnded}
 
 module _ (session : OwnedSession) (is : IsSession session) (stopped : session.stopped ≡ true) where
   abbrev setup : Setup
@@ -251,7 +252,7 @@ module _ (session : OwnedSession) (is : IsSession session) (stopped : session.st
         let same : counts_in one ≡ counts_told session place seat =
         ap counts_in (told
         ∙ ap losses_of (left_same count.begun count.dropped (counted (begun_count calls)) (counted (dropped_at_begin calls)) state state
-        done.begun_is done.dropped_is refl
+        done.counts.begun_is done.counts.dropped_is refl
         ∙ left_is buffer.policy calls (sequence_in buffer.sequences (sequence_of place)) balanced)) in
         let delivered : (counts_told session place seat).delivered ≡ length (records_of (sequence_of place) (records_in session)) =
         ∥∥₁_elim led (ℕ_set _ _) (λ (w : AWorld).

@@ -23,8 +23,8 @@ use Rattle.replay_host.proofs.MakingLemmas.{pushed_each}
 use Rattle.thread_service.specs.Settling.{IsWholeTale}
 use Rattle.thread_writer.specs.declared.writer.TraceWriter.{TraceWriter}
 use Rattle.tracesmb_c.specs.declared.session.Counted.{Counted}
-use Rattle.tracesmb_c.specs.Ending.{IsLeft, IsTold}
-use Rattle.tracesmb_c.specs.Sessions.{IsEnded, none_counted}
+use Rattle.tracesmb_c.specs.Ending.{IsLeft, IsTold, none_counted}
+use Rattle.tracesmb_c.specs.Sessions.{IsEnded}
 
 -- ---- one behind another
 
@@ -157,6 +157,5 @@ settled_seat table homes heard settled view desk place seat count inside left to
       between = left.between;
       none_held = left.none_held;
       taken = omega (arith, here, rise);
-      begun_is = left.begun_is;
-      dropped_is = left.dropped_is;
+      counts = left.counts;
     }

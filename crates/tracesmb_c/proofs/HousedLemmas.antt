@@ -7,7 +7,7 @@ use Rattle.chunk_words.specs.declared.seats.ReadPass.{ReadPass}
 use Rattle.chunk_words.specs.Sits.{Passes, setup_in, known_by_pass}
 use Rattle.service_core.specs.Agreement.{is_closed}
 use Rattle.thread_service.specs.declared.service.Service.{Service}
-use Rattle.thread_service.specs.Reading.{IsKnownWhole, records_of}
+use Rattle.thread_service.specs.Reading.{IsKnownWhole}
 use Rattle.thread_service.specs.Serving.{Serves, core_of, view_in}
 use Rattle.thread_writer.specs.declared.writer.TraceWriter.{TraceWriter}
 use Rattle.tracesmb_c.specs.declared.session.OwnedSession.{OwnedSession}
@@ -15,8 +15,7 @@ use Rattle.tracesmb_c.specs.declared.writer.OwnedWriter.{OwnedWriter}
 use Rattle.tracesmb_c.specs.Lending.{IsReady, table_of, view_of}
 use Rattle.trace_writer.specs.Core.{in_packet, holds_chunk}
 use Rattle.thread_writer.specs.Writing.{core_of as writer_core, Writes}
-use Rattle.tracesmb_c.specs.Sessions.{session_table, IsHome, IsSession, KeepsOthers, KeepsGiven}
-use Rattle.tracesmb_c.proofs.SessionLemmas.{given_still}
+use Rattle.tracesmb_c.specs.Sessions.{session_table, IsHome, IsSession, KeepsOthers}
 
 -- ---- lists
 
@@ -85,11 +84,14 @@ module _ (old new : OwnedSession) (place : ℕ) (home : Option TraceWriter) (is 
               subst (λ (t : HostTable). is_closed (setup_in t) (core_of new.service) other ≡ false) table_is
               (subst (λ (s : Service). is_closed (setup_in (session_table old)) (core_of s) other ≡ false) (sym others.service)
               (before.opened other (omega (arith, inside, wide))));
-          no_seats = ap (λ v. v.items) others.seats ∙ before.no_seats;
-          no_counts = ap (λ v. v.items) others.counts ∙ before.no_counts;
-          seats_room = let room = before.seats_room in let same = ap (λ v. vec_capacity v) others.seats in omega (arith, room, same, wide);
-          counts_room = let room = before.counts_room in let same = ap (λ v. vec_capacity v) others.counts in omega
-              (arith, room, same, wide);
+          room = record {
+            no_seats = ap (λ v. v.items) others.seats ∙ before.room.no_seats;
+            no_counts = ap (λ v. v.items) others.counts ∙ before.room.no_counts;
+            seats_room = let room = before.room.seats_room in let same = ap (λ v. vec_capacity v) others.seats in omega
+                (arith, room, same, wide);
+            counts_room = let room = before.room.counts_room in let same = ap (λ v. vec_capacity v) others.counts in omega
+                (arith, room, same, wide);
+          };
         };
     ended = λ stopped. let wrong : true ≡ false = sym stopped ∙ others.stopped ∙ goes in absurd (cc);
   }
@@ -107,15 +109,6 @@ others_on old between new first next = record {
   torn = next.torn ∙ first.torn;
   waiting = next.waiting ∙ first.waiting;
 }
-
--- nothing is given where writers go and come
-pub housed_given : (old new : OwnedSession) → KeepsOthers old new → KeepsGiven old new
-housed_given old new others =
-    given_still old new
-    (ap (λ (t : HostTable). records_of (setup_in t) (core_of new.service) (known_by_pass new.pass)) others.table
-    ∙ ap (λ (s : Service). records_of (setup_in (session_table old)) (core_of s) (known_by_pass new.pass)) others.service
-    ∙ ap (λ (p : ReadPass). records_of (setup_in (session_table old)) (core_of old.service)
-    (known_by_pass p)) others.pass) others.torn others.waiting
 
 -- ---- writers
 

@@ -1,6 +1,6 @@
 -- A session as it is made.
-use Rattle.std.proofs.Common.{◌≡◌, ◌∙◌, ℕ, ◌<◌, ◌≤◌, true, false, Option, Some, List, [], length, sym, ap, subst, arith}
-use Rattle.std.specs.Prelude.{slice_get, vec_capacity}
+use Rattle.std.proofs.Common.{◌≡◌, ◌∙◌, ℕ, ◌<◌, true, false, Option, Some, List, [], length, sym, ap, subst, arith}
+use Rattle.std.specs.Prelude.{slice_get}
 use Rattle.std.proofs.lemmas.Option.{slice_get_within}
 use Rattle.trace_base.proofs.Lists.{some_there}
 use Rattle.trace_base.specs.declared.policy.WriterSpec.{WriterSpec}
@@ -19,6 +19,7 @@ use Rattle.thread_writer.specs.Writing as writing
 use Rattle.trace_writer.specs.Core.{in_packet}
 use Rattle.tracesmb_c.specs.declared.planning.Plan.{Plan}
 use Rattle.tracesmb_c.specs.declared.session.OwnedSession.{OwnedSession}
+use Rattle.tracesmb_c.specs.Ending.{HaveRoom}
 use Rattle.tracesmb_c.specs.Planning.{IsPlan}
 use Rattle.tracesmb_c.specs.Sessions.{session_table, known_in, IsHome, AreHome, IsNewHome, IsSession, IsUntouched, HasGiven}
 use Rattle.tracesmb_c.specs.Sessions.{records_in}
@@ -36,10 +37,7 @@ pub record IsMade (plan : Plan) (session : OwnedSession) : Type 0 where
   pub many : length session.homes.items ≡ length plan.writers.items
   pub homes : (place : ℕ) (home : Option TraceWriter) → slice_get session.homes.items place ≡ Some home → IsNewHome
       (session_table session) plan.writers.items place home
-  pub no_seats : session.seats.items ≡ []
-  pub no_counts : session.counts.items ≡ []
-  pub seats_room : length plan.writers.items ≤ vec_capacity session.seats
-  pub counts_room : length plan.writers.items ≤ vec_capacity session.counts
+  pub room : HaveRoom (length plan.writers.items) session.seats session.counts
   pub producers : session.producers ≡ length plan.producers.items
   pub goes : session.stopped ≡ false
   pub whole : session.torn ≡ false
@@ -86,10 +84,7 @@ module _ (plan : Plan) (session : OwnedSession) (planned : IsPlan plan) (made : 
       opened = λ place inside.
           subst (λ (s : Setup). is_closed s (core_of session.service) place ≡ false) (sym made.setup)
           (made.opened place (let long = wide in omega (arith, inside, long)));
-      no_seats = made.no_seats;
-      no_counts = made.no_counts;
-      seats_room = let long = wide in let room = made.seats_room in omega (arith, long, room);
-      counts_room = let long = wide in let room = made.counts_room in omega (arith, long, room);
+      room = subst (λ (n : ℕ). HaveRoom n session.seats session.counts) (sym wide) made.room;
     };
     ended = λ stopped. let goes = made.goes in let wrong : false ≡ true = sym goes ∙ stopped in absurd (cc);
   }

@@ -21,7 +21,8 @@ use Rattle.thread_service.specs.Serving.{Serves, core_of, view_in}
 use Rattle.tracesmb_c.specs.declared.session.Counted.{Counted}
 use Rattle.tracesmb_c.specs.declared.session.OwnedSession.{OwnedSession}
 use Rattle.tracesmb_c.specs.declared.waiting.Waiting.{Waiting}
-use Rattle.tracesmb_c.specs.Sessions.{session_table, known_in, none_counted, IsEnded, IsSession}
+use Rattle.tracesmb_c.specs.Ending.{none_counted}
+use Rattle.tracesmb_c.specs.Sessions.{session_table, known_in, IsEnded, IsSession}
 use Rattle.tracesmb_c.specs.Sessions.{KeepsGiven, records_in}
 use Rattle.tracesmb_c.specs.Waits.{left_in}
 
@@ -49,8 +50,7 @@ ended_still table old new place seat count rises ended = record {
   between = ended.between;
   none_held = ended.none_held;
   taken = let taken = ended.taken in omega (arith, taken, rises);
-  begun_is = ended.begun_is;
-  dropped_is = ended.dropped_is;
+  counts = ended.counts;
 }
 
 -- a session goes on with a service that kept what is closed, heard of no commit, and has taken no fewer chunks
@@ -72,10 +72,7 @@ serves_on session service pass waiting torn is serves passes known keeps commits
         many = goes.many;
         homes = goes.homes;
         opened = λ place inside. keeps.closed place inside ∙ goes.opened place inside;
-        no_seats = goes.no_seats;
-        no_counts = goes.no_counts;
-        seats_room = goes.seats_room;
-        counts_room = goes.counts_room;
+        room = goes.room;
       };
   ended = λ stopped.
       let ended = is.ended stopped in
@@ -148,10 +145,7 @@ waits_on session waiting is = record {
         many = goes.many;
         homes = goes.homes;
         opened = goes.opened;
-        no_seats = goes.no_seats;
-        no_counts = goes.no_counts;
-        seats_room = goes.seats_room;
-        counts_room = goes.counts_room;
+        room = goes.room;
       };
   ended = λ stopped. let ended = is.ended stopped in record { many = ended.many; counts = ended.counts; each = ended.each };
 }

@@ -15,14 +15,14 @@ use Rattle.service_core.specs.declared.service.ServiceCore.{ServiceCore}
 use Rattle.service_core.specs.Agreement.{is_closed, KeepsRest}
 use Rattle.thread_service.specs.declared.service.Service.{Service}
 use Rattle.thread_service.specs.Reading.{IsKnownWhole, records_of}
-use Rattle.thread_service.specs.Serving.{Serves, IsOnlySeat, core_of, view_in, desk_in}
+use Rattle.thread_service.specs.Serving.{Serves, IsOnlySeat, KnowsSame, core_of, view_in, desk_in}
 use Rattle.thread_service.specs.Settling.{IsWholeTale}
 use Rattle.thread_writer.specs.declared.writer.TraceWriter.{TraceWriter}
 use Rattle.thread_writer.specs.Writing as writing
 use Rattle.tracesmb_c.specs.declared.session.Counted.{Counted}
 use Rattle.tracesmb_c.specs.declared.session.OwnedSession.{OwnedSession}
-use Rattle.tracesmb_c.specs.Ending.{IsLeft, IsTold}
-use Rattle.tracesmb_c.specs.Sessions.{session_table, IsSession, IsEnded, HasEnded, HasStopped, KeepsGiven, none_counted}
+use Rattle.tracesmb_c.specs.Ending.{AreLeft, IsTold, none_counted}
+use Rattle.tracesmb_c.specs.Sessions.{session_table, IsSession, IsEnded, HasEnded, HasStopped, KeepsGiven}
 use Rattle.tracesmb_c.proofs.EndLemmas.{settled_seat}
 use Rattle.tracesmb_c.proofs.SessionLemmas.{given_still, same_records}
 
@@ -30,12 +30,8 @@ use Rattle.tracesmb_c.proofs.SessionLemmas.{given_still, same_records}
 pub record Stops (table : HostTable) (homes : List (Option TraceWriter)) (seats : List WriterSeat) (counts : List Counted)
     (first heard settled last : Service) : Type 0 where
   pub serves : Serves table last
-  pub view : view_in heard ≡ view_in first
-  pub only : IsOnlySeat (core_of first) (core_of heard)
-  pub many : length seats ≡ length homes
-  pub counted : length counts ≡ length homes
-  pub left : (place : ℕ) (seat : WriterSeat) → slice_get seats place ≡ Some seat → IsLeft table homes place seat
-      (slice_index_or counts place none_counted)
+  pub same : KnowsSame first heard
+  pub left : AreLeft table homes seats counts
   pub told : (place : ℕ) (seat : WriterSeat) → slice_get seats place ≡ Some seat → IsTold (length (view_in heard).looks)
       (desk_in heard) place seat
   pub keeps : KeepsRest (setup_in table) (core_of heard) (core_of settled)
@@ -57,19 +53,19 @@ module _ (old new : OwnedSession) (heard settled : Service) (is : IsSession old)
     (stopped : new.stopped ≡ true) (pass : new.pass ≡ old.pass) (producers : new.producers ≡ old.producers)
     (stops : Stops (session_table old) old.homes.items new.seats.items new.counts.items old.service heard settled new.service) where
   wide : length new.seats.items ≡ length (setup_in (session_table old)).writers
-  wide = stops.many ∙ (is.goes_on goes).many
+  wide = stops.left.many ∙ (is.goes_on goes).many
 
   ended : HasEnded new
   ended = record {
     many = wide ∙ ap (λ (t : HostTable). length (setup_in t).writers) (sym same);
-    counts = stops.counted ∙ (is.goes_on goes).many ∙ ap (λ (t : HostTable). length (setup_in t).writers) (sym same);
+    counts = stops.left.counts_many ∙ (is.goes_on goes).many ∙ ap (λ (t : HostTable). length (setup_in t).writers) (sym same);
     each = λ place seat there.
         let inside = slice_get_within new.seats.items place seat there in
         let long = wide in
         subst (λ (t : HostTable). IsEnded t (view_in new.service) place seat (slice_index_or new.counts.items place none_counted))
         (sym same)
         (settled_seat (session_table old) old.homes.items (view_in heard) (view_in settled) (view_in new.service) (desk_in heard) place seat
-        (slice_index_or new.counts.items place none_counted) (omega (arith, inside, long)) (stops.left place seat there)
+        (slice_index_or new.counts.items place none_counted) (omega (arith, inside, long)) (stops.left.each place seat there)
         (stops.told place seat there) stops.taken stops.rises);
   }
 
@@ -79,7 +75,7 @@ module _ (old new : OwnedSession) (heard settled : Service) (is : IsSession old)
     pass = subst (λ (t : HostTable). Passes t new.pass) (sym same)
         (subst (λ (p : ReadPass). Passes (session_table old) p) (sym pass) is.pass);
     known = subst (λ (p : ReadPass). IsKnownWhole (known_by_pass p)) (sym pass) is.known;
-    own = stops.commits ∙ stops.own ∙ ap (λ (v : ServiceView). v.commits) stops.view ∙ is.own;
+    own = stops.commits ∙ stops.own ∙ ap (λ (v : ServiceView). v.commits) stops.same.view ∙ is.own;
     producers = producers ∙ is.producers ∙ ap (λ (t : HostTable). length (setup_in t).ranges) (sym same);
     goes_on = λ open_still. let wrong : true ≡ false = sym stopped ∙ open_still in absurd (cc);
     ended = λ _. ended;
@@ -92,9 +88,9 @@ module _ (old new : OwnedSession) (heard settled : Service) (is : IsSession old)
     closed = stops.closed;
     seats = λ place writer there.
         let inside = slice_get_within old.homes.items place _ there in
-        let many = stops.many in
+        let many = stops.left.many in
         let seat = some_there new.seats.items place (omega (arith, inside, many)) in
-        let left = stops.left place seat.0 seat.1 in
+        let left = stops.left.each place seat.0 seat.1 in
         let home : slice_get old.homes.items place ≡ Some (Some left.writer) = left.home in
         let one : left.writer ≡ writer = cc in
         (seat.0, seat.1, left.knows ∙ ap writing.view_in one);
@@ -103,7 +99,7 @@ module _ (old new : OwnedSession) (heard settled : Service) (is : IsSession old)
   pub stopped_given : new.torn ≡ old.torn → new.waiting ≡ old.waiting → KeepsGiven old new
   stopped_given torn waiting =
       let specs : (core_of new.service).specs.items ≡ (core_of old.service).specs.items =
-      stops.specs ∙ stops.keeps.fields.specs ∙ ap (λ (core : ServiceCore ServiceSeat). core.specs.items) stops.only in
+      stops.specs ∙ stops.keeps.fields.specs ∙ ap (λ (core : ServiceCore ServiceSeat). core.specs.items) stops.same.only in
       given_still old new
       (ap (λ (t : HostTable). records_of (setup_in t) (core_of new.service) (known_by_pass new.pass)) same
       ∙ ap (λ (p : ReadPass). records_of (setup_in (session_table old)) (core_of new.service) (known_by_pass p)) pass

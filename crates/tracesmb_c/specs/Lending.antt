@@ -1,5 +1,6 @@
 -- A writer that is lent to a program, between two of its calls.
-use Rattle.std.specs.Prelude.{◌≡◌, ℕ, ◌+◌, ◌≤◌, Bool, true, false, List, [], ◌∷◌, ◌++◌, Result, Ok, Err}
+use Rattle.std.specs.Prelude.{◌≡◌, ℕ, ◌+◌, ◌≤◌, Bool, true, false, List, [], ◌∷◌, ◌++◌}
+use Rattle.std.specs.Prelude.{Some, None, Result, Ok, Err, IfOk, OnErr, MatchResult}
 use Rattle.std.specs.Arc.{arc_value}
 use Rattle.trace_base.specs.declared.limits.TheConstants.{MAX_FIELD}
 use Rattle.trace_base.specs.declared.policy.WriterPolicy.TheVariants.{Drops}
@@ -12,7 +13,8 @@ use Rattle.trace_writer.specs.declared.fault.Begun.{Begun as BegunPacket}
 use Rattle.trace_writer.specs.declared.fault.Begun.TheVariants.{Kept, Dropping}
 use Rattle.trace_writer.specs.declared.fault.CallFault.{CallFault}
 use Rattle.trace_writer.specs.Asked.{written_as}
-use Rattle.trace_writer.specs.Core.{route_of}
+use Rattle.trace_writer.specs.Calling.{packet_fault}
+use Rattle.trace_writer.specs.Core.{in_packet, open_depth, route_of}
 use Rattle.trace_writer.specs.Losing.{LosesBehind}
 use Rattle.thread_writer.specs.Writing.{core_of, view_in, Writes}
 use Rattle.tracesmb_c.specs.declared.writer.OwnedWriter.{OwnedWriter}
@@ -70,3 +72,19 @@ field_answer (Err fault) = REFUSED
 pub record IsField (field : ℕ) : Type 0 where
   pub least : 1 ≤ field
   pub most : field ≤ MAX_FIELD
+
+-- A packet was begun, kept or dropped as is answered. Where it is dropped the writer was out of chunks.
+pub record BeginsPacket (answer : BegunPacket) (old new : OwnedWriter) : Type 0 where
+  pub ready : IsReady new
+  pub notes : Notes old new (noted_begin answer)
+  pub reason : answer ≡ Dropping → IsOutOfChunks old new
+  pub begun : in_packet (view_of new) ≡ true
+  pub depth : open_depth (view_of new) ≡ 0
+
+-- A field was noted in the packet that is begun; or it was refused, for what its packet has, and nothing was noted.
+pub record WritesField (call : Call) (answer : Result (Unit {0}) CallFault) (old new : OwnedWriter) : Type 0 where
+  pub ready : IsReady new
+  pub notes : IfOk answer (λ _. NotesField old new call)
+  pub refused : OnErr answer (Stays old new)
+  pub reason : MatchResult answer (λ _. packet_fault (view_of old) call ≡ None) (λ fault. packet_fault (view_of old) call ≡ Some fault)
+  pub begun : in_packet (view_of new) ≡ true

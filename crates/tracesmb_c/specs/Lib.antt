@@ -1,4 +1,5 @@
 pub mod Answering
+pub mod Collecting
 pub mod Ending
 pub mod Eventing
 pub mod Handles

@@ -1,6 +1,6 @@
 -- A session that a program has: its table, its service with the reading pass, and its writers.
 use Rattle.std.specs.Prelude.{◌≡◌, ℕ, ◌-◌, ◌<◌, ◌≤◌, true, false, List, [], ◌∷◌, ◌++◌, length, map, Option, Some, None}
-use Rattle.std.specs.Prelude.{slice_get, slice_set, slice_index_or, vec_capacity}
+use Rattle.std.specs.Prelude.{slice_get, slice_set, slice_index_or}
 use Rattle.std.specs.Arc.{arc_value}
 use Rattle.trace_base.specs.declared.policy.WriterPolicy.{WriterPolicy}
 use Rattle.trace_base.specs.declared.policy.WriterPolicy.TheVariants.{Drops}
@@ -10,7 +10,7 @@ use Rattle.trace_model.specs.Calls.{Flushed}
 use Rattle.trace_model.specs.Counts.{last_count}
 use Rattle.trace_model.specs.Delivery as delivery
 use Rattle.trace_model.specs.Delivery.{Delivered, IsFaithful, trace_of}
-use Rattle.trace_model.specs.Packets.{begun_count, dropped_at_begin, emissions_of}
+use Rattle.trace_model.specs.Packets.{begun_count, emissions_of}
 use Rattle.trace_model.specs.Sequences.{sequence_in}
 use Rattle.chunk_plain.specs.Laying.{setup_of}
 use Rattle.chunk_plain.specs.Owned.{held_count}
@@ -21,7 +21,6 @@ use Rattle.chunk_words.specs.declared.host.HostTable.{HostTable}
 use Rattle.chunk_words.specs.declared.seats.WriterSeat.{WriterSeat}
 use Rattle.chunk_words.specs.Sits.{Sits, Passes, setup_in, known_by, known_by_pass}
 use Rattle.service_core.specs.Agreement.{is_closed}
-use Rattle.trace_writer.specs.Agreement.{counted}
 use Rattle.trace_writer.specs.Core.{in_packet, holds_chunk, route_of}
 use Rattle.schedule_laws.specs.Resting.{IsBetweenCalls}
 use Rattle.thread_writer.specs.declared.writer.TraceWriter.{TraceWriter}
@@ -34,7 +33,7 @@ use Rattle.tracesmb_c.specs.declared.planning.SessionSetup.{SessionSetup}
 use Rattle.tracesmb_c.specs.declared.session.Counted.{Counted}
 use Rattle.tracesmb_c.specs.declared.session.OwnedSession.{OwnedSession}
 use Rattle.tracesmb_c.specs.declared.writer.OwnedWriter.{OwnedWriter}
-use Rattle.tracesmb_c.specs.Ending.{AreThere}
+use Rattle.tracesmb_c.specs.Ending.{AreThere, HaveRoom, IsCountOf, none_counted}
 use Rattle.tracesmb_c.specs.Lending.{IsReady, table_of, view_of}
 use Rattle.tracesmb_c.specs.Losing.{buffer_for}
 use Rattle.tracesmb_c.specs.Planning.{IsPlanFor}
@@ -62,10 +61,6 @@ pub record IsHome (table : HostTable) (place : ℕ) (writer : TraceWriter) : Typ
 abbrev pub AreHome : HostTable → List (Option TraceWriter) → Type 0
 AreHome table homes = (place : ℕ) (writer : TraceWriter) → slice_get homes place ≡ Some (Some writer) → IsHome table place writer
 
--- what isn't counted
-abbrev pub none_counted : Counted
-none_counted = record { begun = 0; dropped = 0 }
-
 -- The seat of a writer that has ended: a writer agreed with what it knows, which holds no chunk, and all that it has begun was taken. So
 -- much the writer counted.
 pub record IsEnded (table : HostTable) (view : ServiceView) (place : ℕ) (seat : WriterSeat) (count : Counted) : Type 0 where
@@ -74,8 +69,7 @@ pub record IsEnded (table : HostTable) (view : ServiceView) (place : ℕ) (seat 
   pub between : IsBetweenCalls (setup_in table) place (known_by seat)
   pub none_held : held_count (known_by seat).begun ≡ 0
   pub taken : length (known_by seat).begun ≤ (taken_of view place).count
-  pub begun_is : count.begun ≡ counted (begun_count (known_by seat).calls)
-  pub dropped_is : count.dropped ≡ counted (dropped_at_begin (known_by seat).calls)
+  pub counts : IsCountOf (known_by seat) count
 
 -- While it goes on there is a place for each writer, whose seat has none yet, and no sequence is closed.
 pub record IsGoingOn (session : OwnedSession) : Type 0 where
@@ -83,10 +77,7 @@ pub record IsGoingOn (session : OwnedSession) : Type 0 where
   pub homes : AreHome (session_table session) session.homes.items
   pub opened : (place : ℕ) → place < length (setup_in (session_table session)).writers
       → is_closed (setup_in (session_table session)) (core_of session.service) place ≡ false
-  pub no_seats : session.seats.items ≡ []
-  pub no_counts : session.counts.items ≡ []
-  pub seats_room : length (setup_in (session_table session)).writers ≤ vec_capacity session.seats
-  pub counts_room : length (setup_in (session_table session)).writers ≤ vec_capacity session.counts
+  pub room : HaveRoom (length (setup_in (session_table session)).writers) session.seats session.counts
 
 -- Once it is stopped each writer has ended.
 pub record HasEnded (session : OwnedSession) : Type 0 where

@@ -7,7 +7,8 @@ ghost use Rattle.chunk_words.specs.Sits.{Passes, setup_in, known_by_pass};
 ghost use Rattle.loss_report.specs.declared.counts.SequenceCounts.{SequenceCounts};
 ghost use Rattle.thread_service.specs.Serving.{core_of, view_in, desk_in, Serves, IsServing};
 ghost use Rattle.tracesmb_c.specs.Losing.{losses_of, losses_at, no_losses};
-ghost use Rattle.tracesmb_c.specs.Sessions.{IsSession, HasClosed, none_counted};
+ghost use Rattle.tracesmb_c.specs.Ending.{none_counted};
+ghost use Rattle.tracesmb_c.specs.Sessions.{IsSession, HasClosed};
 ghost use Rattle.tracesmb_c.specs.Waits.{left_in};
 
 use crate::session::{Counted, Ended, OwnedSession};

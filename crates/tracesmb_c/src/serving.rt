@@ -1,19 +1,14 @@
 //! The exports of a session. Each tests its handle, and answers a stated fault where the call isn't possible.
-ghost use Rattle.std.specs.Prelude.{◌≡◌, ◌≢◌, ℕ, ◌-◌, ◌<◌, ◌≤◌, ◌⊎◌, true, false, List, [], ◌++◌, length, take, drop, slice_get};
+ghost use Rattle.std.specs.Prelude.{◌≡◌, ◌≢◌, ◌-◌, ◌<◌, true, false, [], length, drop};
 ghost use Rattle.std.specs.Prelude.{IfSome, Some, None};
-ghost use Rattle.trace_model.specs.Delivery.{trace_of};
-ghost use Rattle.trace_writer.specs.Core.{in_packet};
 ghost use Rattle.tracesmb_c.specs.declared.codes.TheConstants.{OK, NO_MEMORY, BAD_HANDLE, BAD_NUMBER, WRONG_STATE, BUSY};
-ghost use Rattle.tracesmb_c.specs.Unread.{records_due};
-ghost use Rattle.tracesmb_c.specs.Waits.{left_in};
-ghost use Rattle.chunk_words.specs.Sits.{setup_in};
-ghost use Rattle.service_core.specs.Scraping.{TakesAndScrapes};
-ghost use Rattle.service_core.specs.Taking.{Takes, places_of};
+ghost use Rattle.tracesmb_c.specs.Collecting.{TakesOrScrapes, MayCollect};
 ghost use Rattle.tracesmb_c.specs.Lending.{IsReady};
 ghost use Rattle.tracesmb_c.specs.Planning.{IsSetup};
-ghost use Rattle.tracesmb_c.specs.Sessions.{session_table, known_in, IsSession, IsUntouched, HasGiven, IsMadeFor, KeepsGiven, KeepsWaiting};
+ghost use Rattle.tracesmb_c.specs.Sessions.{IsSession, IsUntouched, HasGiven, IsMadeFor, KeepsGiven, KeepsWaiting};
 ghost use Rattle.tracesmb_c.specs.Sessions.{KeepsOthers, KeepsWriters, HasStopped, AreAllHome, HasClosed};
 ghost use Rattle.tracesmb_c.specs.Served.{HasSession, LeadsSession, IsLentBy, IsBackIn, SameTable, MayLend, MayTakeBack};
+ghost use Rattle.tracesmb_c.specs.Served.{GivesNext, IsCloseAnswer};
 
 use crate::closing::Losses;
 use crate::codes::{BAD_HANDLE, BAD_NUMBER, BUSY, NO_MEMORY, OK, WRONG_STATE};
@@ -76,7 +71,6 @@ pub extern "C" fn tracesmb_session_lend(
     ensures refused { result ≢ OK → writer.new.raw.value ≡ writer.old.raw.value }
     ensures kept { result ≢ OK → session.old.raw.value ≢ None
         → LeadsSession session.old.raw.value session.new.raw.value (λ old new. (new.homes.items ≡ old.homes.items) × KeepsOthers old new) }
-    ensures given { session.old.raw.value ≢ None → LeadsSession session.old.raw.value session.new.raw.value KeepsGiven }
     ensures when { writer.old.raw.value ≡ None → HasSession session.old.raw.value (MayLend number) → result ≢ OK → result ≡ NO_MEMORY }
 {
     if !session.full || writer.full {
@@ -104,7 +98,6 @@ pub extern "C" fn tracesmb_session_take_back(
     ensures session { IfSome session.new.raw.value IsSession }
     ensures done { result ≡ OK → (writer.new.raw.value ≡ None) × IsBackIn writer.old.raw.value session.old.raw.value session.new.raw.value }
     ensures refused { result ≢ OK → (writer.new.raw.value ≡ writer.old.raw.value) × (session.new.raw.value ≡ session.old.raw.value) }
-    ensures given { session.old.raw.value ≢ None → LeadsSession session.old.raw.value session.new.raw.value KeepsGiven }
     ensures when { MayTakeBack session.old.raw.value writer.old.raw.value → result ≡ OK }
 {
     if !session.full || !writer.full {
@@ -134,17 +127,12 @@ pub extern "C" fn tracesmb_session_collect(
 ) -> u32
     requires session { IfSome session.old.raw.value IsSession }
     ensures session { IfSome session.new.raw.value IsSession }
-    ensures takes { result ≡ OK → held ≡ false → LeadsSession session.old.raw.value session.new.raw.value
-        (λ old new. Takes (setup_in (session_table old)) (places_of producer 0 (setup_in (session_table old)).writers) taken.new
-        (known_in old) (known_in new)) }
-    ensures scrapes { result ≡ OK → held ≡ true → LeadsSession session.old.raw.value session.new.raw.value
-        (λ old new. TakesAndScrapes (setup_in (session_table old)) producer taken.new (known_in old) (known_in new)) }
+    ensures takes { result ≡ OK → LeadsSession session.old.raw.value session.new.raw.value (TakesOrScrapes held producer taken.new) }
     ensures refused { result ≢ OK → (session.new.raw.value ≡ session.old.raw.value) × (taken.new ≡ taken.old) }
     ensures given { session.old.raw.value ≢ None → LeadsSession session.old.raw.value session.new.raw.value KeepsGiven }
     ensures waits { session.old.raw.value ≢ None → LeadsSession session.old.raw.value session.new.raw.value KeepsWaiting }
     ensures writers { session.old.raw.value ≢ None → LeadsSession session.old.raw.value session.new.raw.value KeepsWriters }
-    ensures when { HasSession session.old.raw.value (λ old. (old.stopped ≡ false) × (1 ≤ producer) × (producer ≤ old.producers))
-        → result ≡ OK }
+    ensures when { HasSession session.old.raw.value (MayCollect producer) → result ≡ OK }
 {
     if !session.full {
         return BAD_HANDLE;
@@ -169,20 +157,12 @@ pub extern "C" fn tracesmb_session_read(
 ) -> u32
     requires session { IfSome session.old.raw.value IsSession }
     ensures session { IfSome session.new.raw.value IsSession }
-    ensures given { result ≡ OK → LeadsSession session.old.raw.value session.new.raw.value
-        (λ old new. (bytes : List ℕ) → HasGiven old bytes → HasGiven new (bytes ++ take given.new room.new)) }
-    ensures within { result ≡ OK → given.new ≤ length room.new }
-    ensures behind { result ≡ OK → drop given.new room.new ≡ drop given.new room.old }
+    ensures gives { result ≡ OK → LeadsSession session.old.raw.value session.new.raw.value (GivesNext given.new room.old room.new) }
     ensures untouched { result ≢ OK → (given.new ≡ given.old) × (room.new ≡ room.old) }
-    ensures whole { result ≡ OK → LeadsSession session.old.raw.value session.new.raw.value
-        (λ old new. (old.torn ≡ false) × (new.torn ≡ false)) }
     ensures torn { result ≡ NO_MEMORY → HasSession session.new.raw.value (λ new. new.torn ≡ true) }
-    ensures nothing { HasSession session.old.raw.value (λ old. old.torn ≡ true) → 0 < length room.old → result ≡ NO_MEMORY }
     ensures refused { result ≢ OK → session.old.raw.value ≢ None → LeadsSession session.old.raw.value session.new.raw.value KeepsGiven }
     ensures writers { session.old.raw.value ≢ None → LeadsSession session.old.raw.value session.new.raw.value KeepsWriters }
-    ensures some { result ≡ OK → given.new ≡ 0 → HasSession session.old.raw.value (λ old.
-        (left_in old.waiting ≡ []) × (trace_of (records_due old) ≡ [])) }
-    ensures when { HasSession session.old.raw.value (λ old. old.torn ≡ false) → 0 < length room.old → result ≢ OK → result ≡ NO_MEMORY }
+    ensures when { session.old.raw.value ≢ None → 0 < length room.old → result ≢ OK → result ≡ NO_MEMORY }
 {
     if !session.full {
         return BAD_HANDLE;
@@ -241,13 +221,7 @@ pub extern "C" fn tracesmb_session_close(
     ensures gone { result ≡ BAD_HANDLE → session.new.raw.value ≡ None }
     ensures refused { result ≢ OK → result ≢ BAD_HANDLE → session.new.raw.value ≡ session.old.raw.value }
     ensures uncounted { result ≢ OK → losses.new ≡ losses.old }
-    ensures goes_on { HasSession session.old.raw.value (λ old. old.stopped ≡ false) → result ≡ WRONG_STATE }
-    ensures room { HasSession session.old.raw.value (λ old. (old.stopped ≡ true) × (length losses.old ≢ length old.seats.items))
-        → result ≡ BAD_NUMBER }
-    ensures unread { HasSession session.old.raw.value (λ old. (old.stopped ≡ true) × (length losses.old ≡ length old.seats.items)
-        × (old.torn ≡ false) × (left_in old.waiting ≢ [])) → result ≡ BUSY }
-    ensures when { HasSession session.old.raw.value (λ old. (old.stopped ≡ true) × (length losses.old ≡ length old.seats.items)
-        × ((old.torn ≡ true) ⊎ (left_in old.waiting ≡ []))) → result ≢ OK → result ≢ BAD_HANDLE → result ≡ BUSY }
+    ensures answers { IfSome session.old.raw.value (IsCloseAnswer result (length losses.old)) }
 {
     if !session.full {
         return BAD_HANDLE;

@@ -1,10 +1,9 @@
 //! Lending writers to a program, and taking them back.
-ghost use Rattle.std.specs.Prelude.{◌≡◌, ◌-◌, ◌<◌, ◌≤◌, false, IfOk, IfErr, OnErr, Some, None, length, slice_get, slice_set};
-ghost use Rattle.trace_writer.specs.Core.{in_packet};
+ghost use Rattle.std.specs.Prelude.{◌≡◌, ◌-◌, ◌<◌, ◌≤◌, IfOk, IfErr, OnErr, Some, None, length, slice_get, slice_set};
 ghost use Rattle.tracesmb_c.specs.declared.codes.TheConstants.{OK, NO_MEMORY};
-ghost use Rattle.tracesmb_c.specs.Lending.{table_of, view_of, IsReady};
+ghost use Rattle.tracesmb_c.specs.Lending.{table_of, IsReady};
 ghost use Rattle.tracesmb_c.specs.Served.{MayLend, IsAwayFrom};
-ghost use Rattle.tracesmb_c.specs.Sessions.{session_table, IsSession, IsLent, IsBack, KeepsGiven, KeepsOthers};
+ghost use Rattle.tracesmb_c.specs.Sessions.{session_table, IsSession, IsLent, IsBack, KeepsOthers};
 
 use crate::codes::{BAD_HANDLE, BAD_NUMBER, BUSY, NO_MEMORY, OK, WRONG_STATE};
 use crate::session::OwnedSession;
@@ -21,7 +20,6 @@ impl OwnedSession {
         ensures lent { IfOk result (λ box. IsLent number self.old self.new box.value) }
         ensures kept { OnErr result (self.new.homes.items ≡ self.old.homes.items) }
         ensures others { OnErr result (KeepsOthers self.old self.new) }
-        ensures given { KeepsGiven self.old self.new }
         ensures code { IfErr result (λ code. 1 ≤ code) }
         ensures when { MayLend number self.old → IfErr result (λ code. code ≡ NO_MEMORY) }
     {
@@ -56,9 +54,7 @@ impl OwnedSession {
     pub fn take_back_code(&self, owned: &OwnedWriter) -> u32
         requires session { IsSession self.now }
         requires ready { IsReady owned.now }
-        ensures open { result ≡ OK → self.now.stopped ≡ false }
-        ensures none_begun { result ≡ OK → in_packet (view_of owned.now) ≡ false }
-        ensures away { result ≡ OK → slice_get self.now.homes.items (owned.now.number - 1) ≡ Some None }
+        ensures away { result ≡ OK → IsAwayFrom self.now owned.now }
         ensures when { IsAwayFrom self.now owned.now → result ≡ OK }
     {
         if self.stopped || owned.number < 1 || owned.number as usize > self.homes.len() {
@@ -78,12 +74,9 @@ impl OwnedSession {
         requires session { IsSession self.old }
         requires ready { IsReady owned }
         requires table { session_table self.old ≡ table_of owned }
-        requires none_begun { in_packet (view_of owned) ≡ false }
-        requires open { self.old.stopped ≡ false }
-        requires away { slice_get self.old.homes.items (owned.number - 1) ≡ Some None }
+        requires away { IsAwayFrom self.old owned }
         ensures session { IsSession self.new }
         ensures back { IsBack owned self.old self.new }
-        ensures given { KeepsGiven self.old self.new }
     {
         let mut owned = owned;
         owned.flush();

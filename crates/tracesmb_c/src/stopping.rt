@@ -1,6 +1,6 @@
 //! The end of a session's writing: all writers are home, all that they completed is taken, and their
 //! sequences are closed.
-ghost use Rattle.std.specs.Prelude.{◌≡◌, ℕ, ◌<◌, ◌≤◌, true, false, [], ◌∷◌, ◌++◌, length, Some, slice_get, slice_index_or, vec_capacity};
+ghost use Rattle.std.specs.Prelude.{◌≡◌, ℕ, ◌<◌, ◌≤◌, true, false, [], ◌∷◌, ◌++◌, length, Some, slice_get, vec_capacity};
 ghost use Rattle.chunk_plain.specs.Histories.{completed_images};
 ghost use Rattle.chunk_plain.specs.declared.tokens.TheConstants.{POSITION_LIMIT};
 ghost use Rattle.chunk_plain.specs.Letters.{last_flush};
@@ -8,16 +8,15 @@ ghost use Rattle.chunk_plain.specs.Views.{taken_of};
 ghost use Rattle.chunk_words.specs.declared.host.HostTable.{HostTable};
 ghost use Rattle.chunk_words.specs.declared.seats.WriterSeat.{WriterSeat};
 ghost use Rattle.chunk_words.specs.Knows.{with_tale};
-ghost use Rattle.chunk_words.specs.Sits.{Sits, setup_in, known_by};
+ghost use Rattle.chunk_words.specs.Sits.{setup_in};
 ghost use Rattle.service_core.specs.Agreement.{is_closed};
-ghost use Rattle.trace_model.specs.Packets.{begun_count, dropped_at_begin};
-ghost use Rattle.trace_writer.specs.Agreement.{counted};
 ghost use Rattle.trace_writer.specs.Core.{holds_chunk};
+ghost use Rattle.thread_host.specs.Terms.{LeavesSeat};
 ghost use Rattle.thread_service.specs.Serving as serving;
-ghost use Rattle.thread_service.specs.Serving.{Serves, IsOnlySeat};
+ghost use Rattle.thread_service.specs.Serving.{Serves, KnowsSame};
 ghost use Rattle.thread_writer.specs.Writing.{core_of, view_in, Writes};
-ghost use Rattle.tracesmb_c.specs.Ending.{IsLeft, IsTold, AreThere};
-ghost use Rattle.tracesmb_c.specs.Sessions.{IsSession, KeepsGiven, KeepsWaiting, AreAllHome, AreHome, HasStopped, none_counted};
+ghost use Rattle.tracesmb_c.specs.Ending.{AreLeft, IsCountOf, IsTold, AreThere, HaveRoom};
+ghost use Rattle.tracesmb_c.specs.Sessions.{IsSession, KeepsGiven, KeepsWaiting, AreAllHome, AreHome, HasStopped};
 
 use crate::session::{Counted, OwnedSession};
 use chunk_words::{HostTable, WriterSeat};
@@ -75,17 +74,10 @@ fn end_writers(
     requires serves { Serves table.now service.old }
     requires there { AreThere homes.items }
     requires home { AreHome table.now homes.items }
-    requires no_seats { seats.old.items ≡ [] }
-    requires no_counts { counts.old.items ≡ [] }
-    requires seats_room { length homes.items ≤ vec_capacity seats.old }
-    requires counts_room { length homes.items ≤ vec_capacity counts.old }
+    requires room { HaveRoom (length homes.items) seats.old counts.old }
     ensures serves { Serves table.now service.new }
-    ensures view { serving.view_in service.new ≡ serving.view_in service.old }
-    ensures only { IsOnlySeat (serving.core_of service.old) (serving.core_of service.new) }
-    ensures many { length seats.new.items ≡ length homes.items }
-    ensures counts { length counts.new.items ≡ length homes.items }
-    ensures left { (place : ℕ) (seat : WriterSeat) → slice_get seats.new.items place ≡ Some seat
-        → IsLeft table.now homes.items place seat (slice_index_or counts.new.items place none_counted) }
+    ensures same { KnowsSame service.old service.new }
+    ensures left { AreLeft table.now homes.items seats.new.items counts.new.items }
     ensures told { (place : ℕ) (seat : WriterSeat) → slice_get seats.new.items place ≡ Some seat
         → IsTold (length (serving.view_in service.new).looks) (serving.desk_in service.new) place seat }
 {
@@ -136,17 +128,12 @@ fn end_writer(
     requires writes { Writes table.now writer }
     requires none_held { holds_chunk (core_of writer) ≡ false }
     ensures serves { Serves table.now service.new }
-    ensures view { serving.view_in service.new ≡ serving.view_in service.old }
-    ensures only { IsOnlySeat (serving.core_of service.old) (serving.core_of service.new) }
+    ensures same { KnowsSame service.old service.new }
     ensures told { serving.desk_in service.new
         ≡ with_tale (serving.desk_in service.old) (serving.view_in service.old) (core_of writer).seat.place (view_in writer).begun
         (last_flush (view_in writer).letters.answers) }
-    ensures sits { Sits table.now result.0 }
-    ensures knows { known_by result.0 ≡ view_in writer }
-    ensures place { result.0.place ≡ (core_of writer).seat.place }
-    ensures few { length (completed_images (view_in writer).begun) ≤ POSITION_LIMIT }
-    ensures begun { result.1.begun ≡ counted (begun_count (view_in writer).calls) }
-    ensures dropped { result.1.dropped ≡ counted (dropped_at_begin (view_in writer).calls) }
+    ensures leaves { LeavesSeat table.now writer result.0 }
+    ensures counts { IsCountOf (view_in writer) result.1 }
 {
     positions_fit(&writer);
     let counted = Counted {

@@ -1,15 +1,14 @@
 //! The calls of a writer that is lent to a program. It drops packets where no chunk is free, so it asks
 //! nobody for help and never stalls.
-ghost use Rattle.std.specs.Prelude.{◌≡◌, ℕ, ◌+◌, ◌<◌, ◌≤◌, true, false, [], ◌∷◌, length, IfOk, OnErr, MatchResult, Some, None};
-ghost use Rattle.trace_base.specs.declared.limits.TheConstants.{MAX_FIELD, MAX_INPUT};
+ghost use Rattle.std.specs.Prelude.{◌≡◌, ◌+◌, ◌<◌, ◌≤◌, true, false, [], ◌∷◌, length};
+ghost use Rattle.trace_base.specs.declared.limits.TheConstants.{MAX_INPUT};
 ghost use Rattle.chunk_plain.specs.declared.tokens.TheConstants.{POSITION_LIMIT};
 ghost use Rattle.trace_model.specs.Calls as call;
-ghost use Rattle.trace_model.specs.Encoding.{number_field};
-ghost use Rattle.trace_writer.specs.declared.fault.Begun.TheVariants.{Dropping};
 ghost use Rattle.trace_writer.specs.declared.ids.TheConstants.{PACKET_IDS};
-ghost use Rattle.trace_writer.specs.Core.{in_packet, open_depth, field_fault, nested_fault, bytes_size, holds_chunk};
+ghost use Rattle.trace_writer.specs.Core.{in_packet, open_depth, holds_chunk};
+ghost use Rattle.thread_host.specs.Terms.{IsBlankOf};
 ghost use Rattle.thread_writer.specs.Writing.{core_of};
-ghost use Rattle.tracesmb_c.specs.Lending.{view_of, IsReady, IsOutOfChunks, Notes, NotesField, Stays, noted_begin};
+ghost use Rattle.tracesmb_c.specs.Lending.{view_of, IsReady, IsField, Notes, BeginsPacket, WritesField};
 
 use crate::writer::OwnedWriter;
 use std::marker::Brand;
@@ -24,11 +23,7 @@ impl OwnedWriter {
         requires ready { IsReady self.old }
         requires none_begun { in_packet (view_of self.old) ≡ false }
         requires ids { length (view_of self.old).begun + PACKET_IDS ≤ POSITION_LIMIT }
-        ensures ready { IsReady self.new }
-        ensures notes { Notes self.old self.new (noted_begin result) }
-        ensures reason { result ≡ Dropping → IsOutOfChunks self.old self.new }
-        ensures begun { in_packet (view_of self.new) ≡ true }
-        ensures depth { open_depth (view_of self.new) ≡ 0 }
+        ensures { BeginsPacket result self.old self.new }
     {
         self.begin_at::<Brand>(Blank::new(1))
     }
@@ -37,14 +32,8 @@ impl OwnedWriter {
     pub fn varint(&mut self, field: u32, value: u64) -> Result<(), CallFault>
         requires ready { IsReady self.old }
         requires begun { in_packet (view_of self.old) ≡ true }
-        requires least { 1 ≤ field }
-        requires most { field ≤ MAX_FIELD }
-        ensures ready { IsReady self.new }
-        ensures notes { IfOk result (λ _. NotesField self.old self.new (call.Number field value)) }
-        ensures refused { OnErr result (Stays self.old self.new) }
-        ensures reason { MatchResult result (λ _. field_fault (view_of self.old) field (length (number_field field value)) ≡ None)
-            (λ fault. field_fault (view_of self.old) field (length (number_field field value)) ≡ Some fault) }
-        ensures begun { in_packet (view_of self.new) ≡ true }
+        requires field { IsField field }
+        ensures writes { WritesField (call.Number field value) result self.old self.new }
         ensures depth { open_depth (view_of self.new) ≡ open_depth (view_of self.old) }
     {
         self.varint_at::<Brand>(field, value, Blank::new(1))
@@ -54,15 +43,9 @@ impl OwnedWriter {
     pub fn bytes(&mut self, field: u32, value: &[u8]) -> Result<(), CallFault>
         requires ready { IsReady self.old }
         requires begun { in_packet (view_of self.old) ≡ true }
-        requires least { 1 ≤ field }
-        requires most { field ≤ MAX_FIELD }
+        requires field { IsField field }
         requires text { length value.now ≤ MAX_INPUT }
-        ensures ready { IsReady self.new }
-        ensures notes { IfOk result (λ _. NotesField self.old self.new (call.Bytes field value.now 1)) }
-        ensures refused { OnErr result (Stays self.old self.new) }
-        ensures reason { MatchResult result (λ _. field_fault (view_of self.old) field (bytes_size field 1 value.now) ≡ None)
-            (λ fault. field_fault (view_of self.old) field (bytes_size field 1 value.now) ≡ Some fault) }
-        ensures begun { in_packet (view_of self.new) ≡ true }
+        ensures writes { WritesField (call.Bytes field value.now 1) result self.old self.new }
         ensures depth { open_depth (view_of self.new) ≡ open_depth (view_of self.old) }
     {
         self.bytes_at::<Brand>(field, value, Blank::new(1))
@@ -72,14 +55,8 @@ impl OwnedWriter {
     pub fn begin_nested(&mut self, field: u32) -> Result<(), CallFault>
         requires ready { IsReady self.old }
         requires begun { in_packet (view_of self.old) ≡ true }
-        requires least { 1 ≤ field }
-        requires most { field ≤ MAX_FIELD }
-        ensures ready { IsReady self.new }
-        ensures notes { IfOk result (λ _. NotesField self.old self.new (call.Nested field)) }
-        ensures refused { OnErr result (Stays self.old self.new) }
-        ensures reason { MatchResult result (λ _. nested_fault (view_of self.old) field ≡ None)
-            (λ fault. nested_fault (view_of self.old) field ≡ Some fault) }
-        ensures begun { in_packet (view_of self.new) ≡ true }
+        requires field { IsField field }
+        ensures { WritesField (call.Nested field) result self.old self.new }
     {
         self.begin_nested_at::<Brand>(field, Blank::new(1))
     }
@@ -127,17 +104,11 @@ impl OwnedWriter {
 /// The calls that count their steps, on a ledger that their type names.
 impl OwnedWriter {
     fn begin_at<L: Ledger>(&mut self, blank: Blank) -> Begun
-        requires name { blank.name ≡ L.name }
-        requires parts { blank.parts ≡ L.parts }
-        requires some_part { 0 < L.parts }
+        requires blank { IsBlankOf L.name L.parts blank }
         requires ready { IsReady self.old }
         requires none_begun { in_packet (view_of self.old) ≡ false }
         requires ids { length (view_of self.old).begun + PACKET_IDS ≤ POSITION_LIMIT }
-        ensures ready { IsReady self.new }
-        ensures notes { Notes self.old self.new (noted_begin result) }
-        ensures reason { result ≡ Dropping → IsOutOfChunks self.old self.new }
-        ensures begun { in_packet (view_of self.new) ≡ true }
-        ensures depth { open_depth (view_of self.new) ≡ 0 }
+        ensures { BeginsPacket result self.old self.new }
     {
         drops_never_stall();
         let mut steps = Steps::<L>::new(blank);
@@ -154,19 +125,11 @@ impl OwnedWriter {
         value: u64,
         blank: Blank,
     ) -> Result<(), CallFault>
-        requires name { blank.name ≡ L.name }
-        requires parts { blank.parts ≡ L.parts }
-        requires some_part { 0 < L.parts }
+        requires blank { IsBlankOf L.name L.parts blank }
         requires ready { IsReady self.old }
         requires begun { in_packet (view_of self.old) ≡ true }
-        requires least { 1 ≤ field }
-        requires most { field ≤ MAX_FIELD }
-        ensures ready { IsReady self.new }
-        ensures notes { IfOk result (λ _. NotesField self.old self.new (call.Number field value)) }
-        ensures refused { OnErr result (Stays self.old self.new) }
-        ensures reason { MatchResult result (λ _. field_fault (view_of self.old) field (length (number_field field value)) ≡ None)
-            (λ fault. field_fault (view_of self.old) field (length (number_field field value)) ≡ Some fault) }
-        ensures begun { in_packet (view_of self.new) ≡ true }
+        requires field { IsField field }
+        ensures writes { WritesField (call.Number field value) result self.old self.new }
         ensures depth { open_depth (view_of self.new) ≡ open_depth (view_of self.old) }
     {
         drops_never_stall();
@@ -182,20 +145,12 @@ impl OwnedWriter {
         value: &[u8],
         blank: Blank,
     ) -> Result<(), CallFault>
-        requires name { blank.name ≡ L.name }
-        requires parts { blank.parts ≡ L.parts }
-        requires some_part { 0 < L.parts }
+        requires blank { IsBlankOf L.name L.parts blank }
         requires ready { IsReady self.old }
         requires begun { in_packet (view_of self.old) ≡ true }
-        requires least { 1 ≤ field }
-        requires most { field ≤ MAX_FIELD }
+        requires field { IsField field }
         requires text { length value.now ≤ MAX_INPUT }
-        ensures ready { IsReady self.new }
-        ensures notes { IfOk result (λ _. NotesField self.old self.new (call.Bytes field value.now 1)) }
-        ensures refused { OnErr result (Stays self.old self.new) }
-        ensures reason { MatchResult result (λ _. field_fault (view_of self.old) field (bytes_size field 1 value.now) ≡ None)
-            (λ fault. field_fault (view_of self.old) field (bytes_size field 1 value.now) ≡ Some fault) }
-        ensures begun { in_packet (view_of self.new) ≡ true }
+        ensures writes { WritesField (call.Bytes field value.now 1) result self.old self.new }
         ensures depth { open_depth (view_of self.new) ≡ open_depth (view_of self.old) }
     {
         drops_never_stall();
@@ -206,19 +161,11 @@ impl OwnedWriter {
     }
 
     fn begin_nested_at<L: Ledger>(&mut self, field: u32, blank: Blank) -> Result<(), CallFault>
-        requires name { blank.name ≡ L.name }
-        requires parts { blank.parts ≡ L.parts }
-        requires some_part { 0 < L.parts }
+        requires blank { IsBlankOf L.name L.parts blank }
         requires ready { IsReady self.old }
         requires begun { in_packet (view_of self.old) ≡ true }
-        requires least { 1 ≤ field }
-        requires most { field ≤ MAX_FIELD }
-        ensures ready { IsReady self.new }
-        ensures notes { IfOk result (λ _. NotesField self.old self.new (call.Nested field)) }
-        ensures refused { OnErr result (Stays self.old self.new) }
-        ensures reason { MatchResult result (λ _. nested_fault (view_of self.old) field ≡ None)
-            (λ fault. nested_fault (view_of self.old) field ≡ Some fault) }
-        ensures begun { in_packet (view_of self.new) ≡ true }
+        requires field { IsField field }
+        ensures { WritesField (call.Nested field) result self.old self.new }
     {
         drops_never_stall();
         let mut steps = Steps::<L>::new(blank);

@@ -1,8 +1,6 @@
 //! The exports of a writer. Each tests its handle, and answers a stated fault where the call isn't possible.
-ghost use Rattle.std.specs.Prelude.{◌≡◌, ◌≢◌, ℕ, true, false, [], ◌∷◌, length, IfSome, None};
+ghost use Rattle.std.specs.Prelude.{◌≡◌, ◌≢◌, true, false, [], ◌∷◌, IfSome, None};
 ghost use Rattle.trace_model.specs.Calls as call;
-ghost use Rattle.trace_model.specs.Encoding.{number_field};
-ghost use Rattle.trace_writer.specs.Core.{in_packet, open_depth, field_fault, nested_fault, bytes_size};
 ghost use Rattle.tracesmb_c.specs.declared.codes.TheConstants.{OK, DROPPING};
 ghost use Rattle.tracesmb_c.specs.Lending.{IsReady, IsOutOfChunks, Notes, NotesField, Stays};
 ghost use Rattle.tracesmb_c.specs.Answering.{Leads, MayBegin, MayWriteNumber, MayWriteText, MayNest, MayEnd, MayFinish, MayFlush};

@@ -4,7 +4,7 @@ use Rattle.std.specs.Prelude.{slice_index_or}
 use Rattle.chunk_words.specs.declared.host.HostTable.{HostTable}
 use Rattle.thread_service.specs.Serving.{Serves}
 use Rattle.tracesmb_c.specs.Losing.{losses_at, no_losses}
-use Rattle.tracesmb_c.specs.Sessions.{none_counted}
+use Rattle.tracesmb_c.specs.Ending.{none_counted}
 use Rattle.tracesmb_c.proofs.closing.count_losses.Given as goal
 
 abbrev pub invariant-writers : goal.invariant-writers

@@ -12,11 +12,9 @@ use Rattle.schedule_laws.specs.Resting.{IsBetweenCalls}
 use Rattle.thread_service.specs.Serving as serving
 use Rattle.thread_writer.specs.declared.writer.TraceWriter.{TraceWriter}
 use Rattle.thread_writer.specs.Writing.{core_of, view_in}
-use Rattle.trace_model.specs.Packets.{begun_count, dropped_at_begin}
-use Rattle.trace_writer.specs.Agreement.{counted}
 use Rattle.tracesmb_c.specs.declared.session.Counted.{Counted}
-use Rattle.tracesmb_c.specs.Ending.{IsLeft, IsTold}
-use Rattle.tracesmb_c.specs.Sessions.{IsHome, none_counted}
+use Rattle.tracesmb_c.specs.Ending.{IsCountOf, IsLeft, IsTold, none_counted}
+use Rattle.tracesmb_c.specs.Sessions.{IsHome}
 use Rattle.tracesmb_c.proofs.EndLemmas.{next_there, some_left, left_next, told_last, told_next}
 use Rattle.thread_host.proofs.Seating.{left_first, only_both}
 use Rattle.tracesmb_c.proofs.HomeLemmas.{none_held, between_calls}
@@ -105,6 +103,7 @@ writers-preserved c =
     let seat : WriterSeat = c.end_writer-seat.result.0 in
     let count : Counted = c.end_writer-seat.result.1 in
     let ends = c.end_writer-seat.ensures in
+    let leaves = ends.leaves in
     let seats_is : c.put_behind.new.seats.items ≡ seats ++ seat ∷ [] = c.put_behind.ensures.seats in
     let counts_is : c.put_behind.new.counts.items ≡ counts ++ count ∷ [] = c.put_behind.ensures.counts in
     let grown = length-append seats (seat ∷ []) in
@@ -124,20 +123,19 @@ writers-preserved c =
     let last : IsLeft c.args.table.now all c.writers.place seat count = record {
       writer = writer;
       home = there;
-      knows = ends.knows;
-      sits = ends.sits;
-      place_is = ends.place ∙ is.place_is;
-      between = subst (IsBetweenCalls (setup_in c.args.table.now) c.writers.place) (sym ends.knows)
+      knows = leaves.knows;
+      sits = leaves.sits;
+      place_is = leaves.place_is ∙ is.place_is;
+      between = subst (IsBetweenCalls (setup_in c.args.table.now) c.writers.place) (sym leaves.knows)
           (between_calls c.args.table.now c.writers.place writer is);
-      none_held = ap (λ (v : WriterView). held_count v.begun) ends.knows ∙ none;
-      begun_is = ends.begun ∙ ap (λ (v : WriterView). counted (begun_count v.calls)) (sym ends.knows);
-      dropped_is = ends.dropped ∙ ap (λ (v : WriterView). counted (dropped_at_begin v.calls)) (sym ends.knows);
+      none_held = ap (λ (v : WriterView). held_count v.begun) leaves.knows ∙ none;
+      counts = subst (λ (v : WriterView). IsCountOf v count) (sym leaves.knows) ends.counts;
     } in
     let looks : ℕ = length old_view.looks in
     let desk : Desk = serving.desk_in c.writers.service in
     let number : ℕ = (core_of writer).seat.place in
     let flush : ℕ = last_flush (view_in writer).letters.answers in
-    let told = told_last old_view desk number c.writers.place flush (view_in writer) seat is.place_is ends.knows none ends.few in
+    let told = told_last old_view desk number c.writers.place flush (view_in writer) seat is.place_is leaves.knows none leaves.few in
     let told_all = told_next looks desk old_view number (view_in writer).begun flush seats seat i.told
     (subst (λ (p : ℕ). IsTold looks (with_tale desk old_view number (view_in writer).begun flush) p seat) here told) in
     record {
@@ -152,9 +150,11 @@ writers-preserved c =
       seats_room = omega (arith, seats_room, seats_capacity);
       counts_room = omega (arith, counts_room, counts_capacity);
       serves = ends.serves;
-      view = ends.view ∙ i.view;
-      only = only_both (serving.core_of c.args.service.now) (serving.core_of c.writers.service)
-          (serving.core_of c.end_writer-seat.new.service) i.only ends.only;
+      same = record {
+        view = ends.same.view ∙ i.same.view;
+        only = only_both (serving.core_of c.args.service.now) (serving.core_of c.writers.service)
+            (serving.core_of c.end_writer-seat.new.service) i.same.only ends.same.only;
+      };
       left = subst (λ (ss : List WriterSeat). (place : ℕ) (other : WriterSeat) → slice_get ss place ≡ Some other
           → IsLeft c.args.table.now all place other (slice_index_or c.put_behind.new.counts.items place none_counted)) (sym seats_is)
           (subst (λ (cs : List Counted). (place : ℕ) (other : WriterSeat) → slice_get (seats ++ seat ∷ []) place ≡ Some other
@@ -168,5 +168,5 @@ writers-preserved c =
           → IsTold (length (serving.view_in c.end_writer-seat.new.service).looks) d place other) (sym ends.told)
           (subst (λ (n : ℕ). (place : ℕ) (other : WriterSeat) → slice_get (seats ++ seat ∷ []) place ≡ Some other
           → IsTold n (with_tale desk old_view number (view_in writer).begun flush) place other)
-          (ap (λ v. length v.looks) (sym ends.view)) told_all));
+          (ap (λ v. length v.looks) (sym ends.same.view)) told_all));
     }

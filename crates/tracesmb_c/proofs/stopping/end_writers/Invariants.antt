@@ -3,10 +3,9 @@ use Rattle.std.proofs.Common.{◌≡◌, ℕ, ◌≤◌, Option, Some, List, ◌
 use Rattle.std.specs.Prelude.{slice_get, slice_index_or, vec_capacity}
 use Rattle.chunk_words.specs.declared.seats.WriterSeat.{WriterSeat}
 use Rattle.thread_service.specs.Serving as serving
-use Rattle.thread_service.specs.Serving.{Serves, IsOnlySeat}
+use Rattle.thread_service.specs.Serving.{Serves, KnowsSame}
 use Rattle.thread_writer.specs.declared.writer.TraceWriter.{TraceWriter}
-use Rattle.tracesmb_c.specs.Ending.{IsLeft, IsTold}
-use Rattle.tracesmb_c.specs.Sessions.{none_counted}
+use Rattle.tracesmb_c.specs.Ending.{IsLeft, IsTold, none_counted}
 use Rattle.tracesmb_c.proofs.stopping.end_writers.Given as goal
 
 abbrev pub invariant-writers : goal.invariant-writers
@@ -19,8 +18,7 @@ invariant-writers l = record {
   seats_room : length l.fn.homes.items ≤ vec_capacity l.seats;
   counts_room : length l.fn.homes.items ≤ vec_capacity l.counts;
   serves : Serves l.table l.service;
-  view : serving.view_in l.service ≡ serving.view_in l.fn.service;
-  only : IsOnlySeat (serving.core_of l.fn.service) (serving.core_of l.service);
+  same : KnowsSame l.fn.service l.service;
   left : (place : ℕ) (seat : WriterSeat) → slice_get l.seats.items place ≡ Some seat
       → IsLeft l.table l.fn.homes.items place seat (slice_index_or l.counts.items place none_counted);
   told : (place : ℕ) (seat : WriterSeat) → slice_get l.seats.items place ≡ Some seat

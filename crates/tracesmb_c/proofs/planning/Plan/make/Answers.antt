@@ -124,10 +124,12 @@ returns-clause-session c =
           subst (λ (t : HostTable). IsNewHome t plan.writers.items place home) c.deref-5.ensures
           (subst (λ (ws : List WriterSpec). IsNewHome c.deref-5.result.now ws place home) c.deref-6.ensures.value
           (c.fill_homes.ensures.made place home there));
-      no_seats = c.in_ok-seats.ensures.items;
-      no_counts = c.in_ok-counts.ensures.items;
-      seats_room = seats_room;
-      counts_room = counts_room;
+      room = record {
+        no_seats = c.in_ok-seats.ensures.items;
+        no_counts = c.in_ok-counts.ensures.items;
+        seats_room = seats_room;
+        counts_room = counts_room;
+      };
       producers = producers;
       goes = refl;
       whole = refl;
@@ -195,10 +197,12 @@ returns-clause-untouched c =
           subst (λ (t : HostTable). IsNewHome t plan.writers.items place home) c.deref-5.ensures
           (subst (λ (ws : List WriterSpec). IsNewHome c.deref-5.result.now ws place home) c.deref-6.ensures.value
           (c.fill_homes.ensures.made place home there));
-      no_seats = c.in_ok-seats.ensures.items;
-      no_counts = c.in_ok-counts.ensures.items;
-      seats_room = seats_room;
-      counts_room = counts_room;
+      room = record {
+        no_seats = c.in_ok-seats.ensures.items;
+        no_counts = c.in_ok-counts.ensures.items;
+        seats_room = seats_room;
+        counts_room = counts_room;
+      };
       producers = producers;
       goes = refl;
       whole = refl;
@@ -266,10 +270,12 @@ returns-clause-given c =
           subst (λ (t : HostTable). IsNewHome t plan.writers.items place home) c.deref-5.ensures
           (subst (λ (ws : List WriterSpec). IsNewHome c.deref-5.result.now ws place home) c.deref-6.ensures.value
           (c.fill_homes.ensures.made place home there));
-      no_seats = c.in_ok-seats.ensures.items;
-      no_counts = c.in_ok-counts.ensures.items;
-      seats_room = seats_room;
-      counts_room = counts_room;
+      room = record {
+        no_seats = c.in_ok-seats.ensures.items;
+        no_counts = c.in_ok-counts.ensures.items;
+        seats_room = seats_room;
+        counts_room = counts_room;
+      };
       producers = producers;
       goes = refl;
       whole = refl;

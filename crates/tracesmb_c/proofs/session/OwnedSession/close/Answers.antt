@@ -13,7 +13,8 @@ use Rattle.thread_service.specs.declared.service.Service.{Service}
 use Rattle.thread_service.specs.Serving.{Serves, core_of, view_in, desk_in}
 use Rattle.tracesmb_c.specs.declared.session.Counted.{Counted}
 use Rattle.tracesmb_c.specs.Losing.{losses_at, no_losses}
-use Rattle.tracesmb_c.specs.Sessions.{session_table, known_in, none_counted}
+use Rattle.tracesmb_c.specs.Ending.{none_counted}
+use Rattle.tracesmb_c.specs.Sessions.{session_table, known_in}
 use Rattle.tracesmb_c.proofs.CloseLemmas.{all_seats, closed_faithful, closed_lost}
 use Rattle.tracesmb_c.proofs.session.OwnedSession.close.Goals as goal
 

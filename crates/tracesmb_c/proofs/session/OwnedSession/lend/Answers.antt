@@ -1,12 +1,12 @@
 -- The writer goes from its place, and comes back where no memory is left for its box.
-use Rattle.std.proofs.Common.{◌≡◌, ◌∙◌, ℕ, ◌+◌, ◌-◌, false, Option, Some, None, List, sym, ap, subst, arith}
+use Rattle.std.proofs.Common.{◌≡◌, ◌∙◌, ℕ, ◌+◌, ◌-◌, Option, Some, None, List, sym, ap, subst, arith}
 use Rattle.std.specs.Prelude.{slice_get, slice_set}
 use Rattle.thread_writer.specs.declared.writer.TraceWriter.{TraceWriter}
 use Rattle.tracesmb_c.specs.declared.session.OwnedSession.{OwnedSession}
 use Rattle.tracesmb_c.specs.declared.writer.OwnedWriter.{OwnedWriter}
 use Rattle.tracesmb_c.specs.Lending.{table_of}
 use Rattle.tracesmb_c.specs.Sessions.{session_table, IsHome, IsSession}
-use Rattle.tracesmb_c.proofs.HousedLemmas.{housed, housed_given, others_on, ready_from_home, set_same, set_back}
+use Rattle.tracesmb_c.proofs.HousedLemmas.{housed, others_on, ready_from_home, set_same, set_back}
 use Rattle.tracesmb_c.proofs.session.OwnedSession.lend.Goals as goal
 
 pub returns-in_default-take_home-clause-session : goal.returns-in_default-take_home-clause-session
@@ -23,9 +23,6 @@ returns-in_default-take_home-clause-kept c =
 
 pub returns-in_default-take_home-clause-others : goal.returns-in_default-take_home-clause-others
 returns-in_default-take_home-clause-others c = c.take_home.ensures.rest
-
-pub returns-in_default-take_home-clause-given : goal.returns-in_default-take_home-clause-given
-returns-in_default-take_home-clause-given c = housed_given c.args.self.now c.take_home.new.self c.take_home.ensures.rest
 
 pub returns-in_default-take_home-clause-when : goal.returns-in_default-take_home-clause-when
 returns-in_default-take_home-clause-when c may =
@@ -64,9 +61,6 @@ returns-in-Ok-new-clause-lent c =
       rest = c.take_home.ensures.rest;
     }
 
-pub returns-in-Ok-new-clause-given : goal.returns-in-Ok-new-clause-given
-returns-in-Ok-new-clause-given c = housed_given c.args.self.now c.take_home.new.self c.take_home.ensures.rest
-
 pub returns-in-Err-clause-session : goal.returns-in-Err-clause-session
 returns-in-Err-clause-session c =
     let session = c.args.self.now in
@@ -101,8 +95,3 @@ returns-in-Err-clause-kept c =
 pub returns-in-Err-clause-others : goal.returns-in-Err-clause-others
 returns-in-Err-clause-others c =
     others_on c.args.self.now c.take_home.new.self c.put_home.new.self c.take_home.ensures.rest c.put_home.ensures.rest
-
-pub returns-in-Err-clause-given : goal.returns-in-Err-clause-given
-returns-in-Err-clause-given c bytes given =
-    housed_given c.take_home.new.self c.put_home.new.self c.put_home.ensures.rest bytes
-    (housed_given c.args.self.now c.take_home.new.self c.take_home.ensures.rest bytes given)

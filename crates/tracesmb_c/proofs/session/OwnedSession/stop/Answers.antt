@@ -1,6 +1,5 @@
 -- The writers are home, so all that they began is taken once they told of it, and no sequence was closed before.
 use Rattle.std.proofs.Common.{◌≡◌, ◌∙◌, ℕ, ◌<◌, ◌≤◌, true, length, refl, sym, ap, subst}
-use Rattle.std.specs.Prelude.{slice_index_or}
 use Rattle.chunk_plain.specs.Views.{At, taken_of}
 use Rattle.chunk_words.specs.declared.host.HostTable.{HostTable}
 use Rattle.chunk_words.specs.Knows.{Tale}
@@ -8,8 +7,8 @@ use Rattle.chunk_words.specs.Sits.{setup_in}
 use Rattle.service_core.specs.Agreement.{is_closed, KeepsRest}
 use Rattle.thread_service.specs.Serving.{Serves, core_of, view_in, desk_in}
 use Rattle.thread_service.specs.Settling.{IsWholeTale}
-use Rattle.tracesmb_c.specs.Ending.{AreThere, IsLeft}
-use Rattle.tracesmb_c.specs.Sessions.{AreHome, none_counted}
+use Rattle.tracesmb_c.specs.Ending.{AreThere, AreLeft, HaveRoom}
+use Rattle.tracesmb_c.specs.Sessions.{AreHome}
 use Rattle.tracesmb_c.proofs.StopLemmas.{stopped_session, has_stopped}
 use Rattle.tracesmb_c.proofs.session.OwnedSession.stop.Goals as goal
 
@@ -21,6 +20,12 @@ end_writers-requires-clause-home c =
     subst (λ v. AreHome c.deref.result.now v.items) (sym c.replace-homes.ensures.value)
     (subst (λ (t : HostTable). AreHome t c.args.self.now.homes.items) (sym c.deref.ensures)
     (c.requires.session.goes_on c.requires.open).homes)
+
+pub end_writers-requires-clause-room : goal.end_writers-requires-clause-room
+end_writers-requires-clause-room c =
+    let goes = c.requires.session.goes_on c.requires.open in
+    subst (λ (n : ℕ). HaveRoom n c.args.self.now.seats c.args.self.now.counts)
+    (sym (ap (λ v. length v.items) c.replace-homes.ensures.value ∙ goes.many)) goes.room
 
 pub close_all-requires-clause-producers : goal.close_all-requires-clause-producers
 close_all-requires-clause-producers c =
@@ -34,15 +39,11 @@ returns-clause-session c =
     let last = c.close_all.new.service in
     stopped_session old _ heard settled c.requires.session c.requires.open refl refl refl refl (record {
       serves = subst (λ (t : HostTable). Serves t last) c.deref-3.ensures c.close_all.ensures.serves;
-      view = c.end_writers.ensures.view;
-      only = c.end_writers.ensures.only;
-      many = c.end_writers.ensures.many ∙ ap (λ v. length v.items) c.replace-homes.ensures.value;
-      counted = c.end_writers.ensures.counts ∙ ap (λ v. length v.items) c.replace-homes.ensures.value;
-      left = λ place seat there.
-          let count = slice_index_or c.end_writers.new.counts.items place none_counted in
-          subst (λ (t : HostTable). IsLeft t old.homes.items place seat count) c.deref.ensures
-          (subst (λ v. IsLeft c.deref.result.now v.items place seat count) c.replace-homes.ensures.value
-          (c.end_writers.ensures.left place seat there));
+      same = c.end_writers.ensures.same;
+      left =
+          subst (λ (t : HostTable). AreLeft t old.homes.items c.end_writers.new.seats.items c.end_writers.new.counts.items) c.deref.ensures
+          (subst (λ v. AreLeft c.deref.result.now v.items c.end_writers.new.seats.items c.end_writers.new.counts.items)
+          c.replace-homes.ensures.value c.end_writers.ensures.left);
       told = c.end_writers.ensures.told;
       keeps = subst (λ (t : HostTable). KeepsRest (setup_in t) (core_of heard) (core_of settled)) c.deref-2.ensures c.settle.ensures.keeps;
       own = c.settle.ensures.own;
@@ -64,15 +65,11 @@ returns-clause-stopped c =
     let last = c.close_all.new.service in
     has_stopped old _ heard settled c.requires.session c.requires.open refl refl refl refl (record {
       serves = subst (λ (t : HostTable). Serves t last) c.deref-3.ensures c.close_all.ensures.serves;
-      view = c.end_writers.ensures.view;
-      only = c.end_writers.ensures.only;
-      many = c.end_writers.ensures.many ∙ ap (λ v. length v.items) c.replace-homes.ensures.value;
-      counted = c.end_writers.ensures.counts ∙ ap (λ v. length v.items) c.replace-homes.ensures.value;
-      left = λ place seat there.
-          let count = slice_index_or c.end_writers.new.counts.items place none_counted in
-          subst (λ (t : HostTable). IsLeft t old.homes.items place seat count) c.deref.ensures
-          (subst (λ v. IsLeft c.deref.result.now v.items place seat count) c.replace-homes.ensures.value
-          (c.end_writers.ensures.left place seat there));
+      same = c.end_writers.ensures.same;
+      left =
+          subst (λ (t : HostTable). AreLeft t old.homes.items c.end_writers.new.seats.items c.end_writers.new.counts.items) c.deref.ensures
+          (subst (λ v. AreLeft c.deref.result.now v.items c.end_writers.new.seats.items c.end_writers.new.counts.items)
+          c.replace-homes.ensures.value c.end_writers.ensures.left);
       told = c.end_writers.ensures.told;
       keeps = subst (λ (t : HostTable). KeepsRest (setup_in t) (core_of heard) (core_of settled)) c.deref-2.ensures c.settle.ensures.keeps;
       own = c.settle.ensures.own;

@@ -3,7 +3,7 @@ use Rattle.std.proofs.Common.{◌≡◌, ◌∙◌, ℕ, ◌+◌, ◌-◌, Some,
 use Rattle.std.specs.Prelude.{slice_set}
 use Rattle.tracesmb_c.specs.declared.writer.OwnedWriter.{OwnedWriter}
 use Rattle.tracesmb_c.specs.Sessions.{session_table, IsHome}
-use Rattle.tracesmb_c.proofs.HousedLemmas.{housed, housed_given, home_from_ready}
+use Rattle.tracesmb_c.proofs.HousedLemmas.{housed, home_from_ready}
 use Rattle.tracesmb_c.proofs.session.OwnedSession.take_back.Goals as goal
 
 pub returns-clause-session : goal.returns-clause-session
@@ -14,7 +14,7 @@ returns-clause-session c =
     let is = c.flush.ensures.ready.number_is in
     let number : lent.number ≡ place + 1 = omega (arith, is) in
     housed session c.put_home.new.self place
-    (Some lent.writer) c.requires.session c.requires.open c.put_home.ensures.rest c.put_home.ensures.homes
+    (Some lent.writer) c.requires.session c.requires.away.goes c.put_home.ensures.rest c.put_home.ensures.homes
     (λ writer there.
     let same : lent.writer ≡ writer = cc in
     subst (IsHome (session_table session) place) same
@@ -31,6 +31,3 @@ returns-clause-back c = record {
       c.put_home.ensures.homes;
   rest = c.put_home.ensures.rest;
 }
-
-pub returns-clause-given : goal.returns-clause-given
-returns-clause-given c = housed_given c.args.self.now c.put_home.new.self c.put_home.ensures.rest

@@ -17,7 +17,7 @@ pub returns-else-name-eq0-clause-all : goal.returns-else-name-eq0-clause-all
 returns-else-name-eq0-clause-all c =
     subst (λ (calls : List Call). IfOk c.bytes.result (λ _. NotesAll c.args.self.now c.bytes.new.self calls))
     (sym (name_some c.args.name.now (let some = c.if-name-eq0.false in omega (arith, some))))
-    (ok_one c.bytes.result c.args.self.now c.bytes.new.self (call.Bytes 23 c.args.name.now 1) c.bytes.ensures.notes)
+    (ok_one c.bytes.result c.args.self.now c.bytes.new.self (call.Bytes 23 c.args.name.now 1) c.bytes.ensures.writes.notes)
 
 pub returns-else-name-eq0-clause-some : goal.returns-else-name-eq0-clause-some
 returns-else-name-eq0-clause-some c =
@@ -25,4 +25,7 @@ returns-else-name-eq0-clause-some c =
     (sym (name_some c.args.name.now (let some = c.if-name-eq0.false in omega (arith, some))))
     (err_one c.bytes.result c.args.self.now c.bytes.new.self (call.Bytes 23 c.args.name.now 1)
     (field_fault (view_of c.args.self.now) 23 (bytes_size 23 1 c.args.name.now))
-    c.bytes.ensures.refused c.bytes.ensures.reason (λ fault is. (fault, is)))
+    c.bytes.ensures.writes.refused c.bytes.ensures.writes.reason (λ fault is. (fault, is)))
+
+pub bytes-requires-clause-field : goal.bytes-requires-clause-field
+bytes-requires-clause-field c = record { least = omega arith; most = omega arith }

@@ -14,3 +14,6 @@ returns-clause-some c =
     err_one c.begin_nested.result c.args.self.now c.begin_nested.new.self (call.Nested c.args.field)
     (nested_fault (view_of c.args.self.now) c.args.field) c.begin_nested.ensures.refused c.begin_nested.ensures.reason
     (λ fault is. (fault, is))
+
+pub begin_nested-requires-clause-field : goal.begin_nested-requires-clause-field
+begin_nested-requires-clause-field c = record { least = c.requires.least; most = c.requires.most }

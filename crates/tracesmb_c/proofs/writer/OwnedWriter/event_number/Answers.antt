@@ -9,10 +9,14 @@ use Rattle.tracesmb_c.proofs.writer.OwnedWriter.event_number.Goals as goal
 
 pub returns-clause-all : goal.returns-clause-all
 returns-clause-all c = ok_one c.varint.result c.args.self.now c.varint.new.self
-    (call.Number c.args.field c.args.value) c.varint.ensures.notes
+    (call.Number c.args.field c.args.value) c.varint.ensures.writes.notes
 
 pub returns-clause-some : goal.returns-clause-some
 returns-clause-some c =
     err_one c.varint.result c.args.self.now c.varint.new.self (call.Number c.args.field c.args.value)
     (field_fault (view_of c.args.self.now) c.args.field
-    (length (number_field c.args.field c.args.value))) c.varint.ensures.refused c.varint.ensures.reason (λ fault is. (fault, is))
+    (length (number_field c.args.field c.args.value))) c.varint.ensures.writes.refused c.varint.ensures.writes.reason
+    (λ fault is. (fault, is))
+
+pub varint-requires-clause-field : goal.varint-requires-clause-field
+varint-requires-clause-field c = record { least = c.requires.least; most = c.requires.most }

@@ -1,0 +1,9 @@
+use Rattle.std.proofs.Common.{refl, arith}
+use Rattle.tracesmb_c.proofs.writer.OwnedWriter.begin_nested.Goals as goal
+
+pub begin_nested_at-requires-clause-blank : goal.begin_nested_at-requires-clause-blank
+begin_nested_at-requires-clause-blank c = record {
+  name_is = refl;
+  parts_are = refl;
+  some = let parts = c.new.ensures in omega (arith, parts);
+}
