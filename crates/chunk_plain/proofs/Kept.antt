@@ -5,7 +5,7 @@ use Rattle.std.proofs.lemmas.List.{get_or-set_same, get_or-set_other, set-get_or
 use Rattle.page_geometry.specs.PageBits.{HasLayout, Claims, KeepsOthers, IsClaimed}
 use Rattle.chunk_plain.specs.declared.setup.Spot.{Spot}
 use Rattle.chunk_plain.specs.declared.step.Step.TheVariants.{Claim}
-use Rattle.chunk_plain.specs.Setup.{Setup, spot, IsLaid}
+use Rattle.chunk_plain.specs.Setup.{Setup, spot, IsLaid, IsChunkOf, producer_of}
 use Rattle.chunk_plain.specs.Views.{At, Ask, WriterView, ServiceView, newcomer}
 use Rattle.chunk_plain.specs.World.{World, Status, Unclaimed, Claimed, Stamped, Writing, Ready, Reading, status, writer}
 use Rattle.chunk_plain.specs.Steps.{claims}
@@ -13,6 +13,7 @@ use Rattle.chunk_plain.specs.Owned.{IsOwned}
 use Rattle.chunk_plain.specs.Shows.{state_of, claim_of, NeverAsked, ShowsPage, ShowsHeader, ShowsSlot, page_word, header_word}
 use Rattle.chunk_plain.specs.Stored.{Stored, stored_at}
 use Rattle.chunk_plain.specs.Plain.{world_after, IsKept}
+use Rattle.chunk_plain.specs.Words.{AskTheirOwn}
 use Rattle.chunk_plain.proofs.Lists.{changed, at_more}
 use Rattle.chunk_plain.proofs.WriterSteps.{claims_owned, misses_owned}
 use Rattle.chunk_plain.proofs.PageSteps.{claims_page}
@@ -36,6 +37,26 @@ never_same setup world place view chunks service inside same number never u i as
     (λ _ at. never place i ask (subst (λ l. At l i ask) same at))
     (λ _ at. never u i ask at)
 
+-- each writer's claims are of its own producer's chunks still
+pub own_same : (setup : Setup) (writers : List WriterView) (place : ℕ) (view : WriterView) → place < length writers
+    → view.asked ≡ (get_or writers place newcomer).asked → AskTheirOwn setup writers → AskTheirOwn setup (set writers place view)
+own_same setup writers place view inside same own k i ask =
+    changed (λ (v : WriterView). At v.asked i ask → IsChunkOf setup (producer_of setup k) ask.chunk) writers place k view newcomer inside
+    (λ is at. own k i ask (subst (λ p. At (get_or writers p newcomer).asked i ask) (sym is) (subst (λ l. At l i ask) same at)))
+    (λ _ at. own k i ask at)
+
+-- and so is one claim more of such a chunk
+own_more : (setup : Setup) (writers : List WriterView) (place chunk found : ℕ) (won : Bool) → place < length writers
+    → IsChunkOf setup (producer_of setup place) chunk → AskTheirOwn setup writers
+    → AskTheirOwn setup (set writers place (claims (get_or writers place newcomer) chunk found won))
+own_more setup writers place chunk found won inside of own k i ask =
+    let v = get_or writers place newcomer in
+    changed (λ (v : WriterView). At v.asked i ask → IsChunkOf setup (producer_of setup k) ask.chunk) writers place k (claims v chunk found won) newcomer inside
+    (λ is at. ⊎_elim (λ old. own k i ask (subst (λ p. At (get_or writers p newcomer).asked i ask) (sym is) old))
+    (λ new. subst (λ (a : Ask). IsChunkOf setup (producer_of setup k) a.chunk) new.1 (subst (λ p. IsChunkOf setup (producer_of setup p) chunk) (sym is) of))
+    (at_more v.asked (record { chunk = chunk; found = found; won = won; calls = length v.calls }) ask i at))
+    (λ _ at. own k i ask at)
+
 pub claim_bit_free : (word place : ℕ) (is : Status) → bit_at word (32 + place) ≡ claim_of is → (bit_at word (32 + place) ≡ 1 → ⊥) → is ≡ Unclaimed
 claim_bit_free word place Unclaimed bit clear = refl
 claim_bit_free word place (Claimed k) bit clear = absurd (clear bit)
@@ -48,11 +69,12 @@ claim_bit_free word place (Reading k i m) bit clear = absurd (clear bit)
 
 claim_won : (setup : Setup) (words : List ℕ) (slots : List Stored) (world : World) (place chunk found new : ℕ)
     → IsLaid setup → IsKept setup words slots world → place < length setup.writers → chunk < length setup.spots
+    → IsChunkOf setup (producer_of setup place) chunk
     → found ≡ page_word setup words chunk
     → Claims found new (spot setup chunk).place (spot setup chunk).layout → KeepsOthers found new (spot setup chunk).place
     → (IsClaimed found (spot setup chunk).place → ⊥)
     → IsKept setup (set words (spot setup chunk).page new) slots (world_after world (Claim place chunk found true))
-claim_won setup words slots world place chunk found new laid kept inside_w inside_c is step keeps clear =
+claim_won setup words slots world place chunk found new laid kept inside_w inside_c of is step keeps clear =
     let shown = kept.shown in let at = spot setup chunk in
     let w_inside : place < length world.writers = let many = kept.writers in omega arith in
     let c_inside : chunk < length world.chunks = let many = shown.chunk_count in omega arith in
@@ -76,15 +98,17 @@ claim_won setup words slots world place chunk found new laid kept inside_w insid
           (subst (λ t. ShowsSlot setup at.payload_size t (stored_at slots chunk)) (sym now) (record { room = before.room; words = tt; body = before.body }));
       owned = claims_owned world place chunk found kept.owned w_inside c_inside free;
       writers = length-set world.writers place (claims v chunk found true) ∙ kept.writers;
+      own = own_more setup world.writers place chunk found true w_inside of kept.own;
     }
 
 claim_lost : (setup : Setup) (words : List ℕ) (slots : List Stored) (world : World) (place chunk found new : ℕ)
     → IsLaid setup → IsKept setup words slots world → place < length setup.writers → chunk < length setup.spots
+    → IsChunkOf setup (producer_of setup place) chunk
     → found ≡ page_word setup words chunk
     → Claims found new (spot setup chunk).place (spot setup chunk).layout → KeepsOthers found new (spot setup chunk).place
     → IsClaimed found (spot setup chunk).place
     → IsKept setup (set words (spot setup chunk).page new) slots (world_after world (Claim place chunk found false))
-claim_lost setup words slots world place chunk found new laid kept inside_w inside_c is step keeps claimed =
+claim_lost setup words slots world place chunk found new laid kept inside_w inside_c of is step keeps claimed =
     let shown = kept.shown in let at = spot setup chunk in
     let w_inside : place < length world.writers = let many = kept.writers in omega arith in
     let page : ShowsPage setup world at found (status world chunk) = subst (λ w. ShowsPage setup world at w (status world chunk)) (sym is) (shown.page chunk inside_c) in
@@ -105,6 +129,7 @@ claim_lost setup words slots world place chunk found new laid kept inside_w insi
           (shown.slot chunk inside_c);
       owned = misses_owned world place chunk found kept.owned w_inside taken;
       writers = length-set world.writers place (claims v chunk found false) ∙ kept.writers;
+      own = own_more setup world.writers place chunk found false w_inside of kept.own;
     }
 
 -- where a chunk is claimed, some writer asked for it: its page is laid out
@@ -119,13 +144,14 @@ laid_out setup world chunk word owned page claimed =
 -- a claim in vain that only reads the page word: a step that sets its bits would leave it as it is
 pub claim_seen : (setup : Setup) (words : List ℕ) (slots : List Stored) (world : World) (place chunk found : ℕ)
     → IsLaid setup → IsKept setup words slots world → place < length setup.writers → chunk < length setup.spots
+    → IsChunkOf setup (producer_of setup place) chunk
     → found ≡ page_word setup words chunk → IsClaimed found (spot setup chunk).place
     → IsKept setup words slots (world_after world (Claim place chunk found false))
-claim_seen setup words slots world place chunk found laid kept inside_w inside_c is claimed =
+claim_seen setup words slots world place chunk found laid kept inside_w inside_c of is claimed =
     let at = spot setup chunk in
     let page : ShowsPage setup world at found (status world chunk) = subst (λ w. ShowsPage setup world at w (status world chunk)) (sym is) (kept.shown.page chunk inside_c) in
     subst (λ l. IsKept setup l slots (world_after world (Claim place chunk found false))) (ap (set words at.page) is ∙ set-get_or words at.page 0)
-    (claim_lost setup words slots world place chunk found found laid kept inside_w inside_c is
+    (claim_lost setup words slots world place chunk found found laid kept inside_w inside_c of is
     record {
       claimed = claimed;
       laid_out = λ _. laid_out setup world chunk found kept.owned page claimed;
@@ -136,20 +162,22 @@ claim_seen setup words slots world place chunk found laid kept inside_w inside_c
 
 by_claimed : (setup : Setup) (words : List ℕ) (slots : List Stored) (world : World) (place chunk found new : ℕ) (claimed : Bool)
     → IsLaid setup → IsKept setup words slots world → place < length setup.writers → chunk < length setup.spots
+    → IsChunkOf setup (producer_of setup place) chunk
     → found ≡ page_word setup words chunk
     → Claims found new (spot setup chunk).place (spot setup chunk).layout → KeepsOthers found new (spot setup chunk).place
     → (IsTrue claimed ↔ IsClaimed found (spot setup chunk).place)
     → IsKept setup (set words (spot setup chunk).page new) slots (world_after world (Claim place chunk found (not claimed)))
-by_claimed setup words slots world place chunk found new true laid kept inside_w inside_c is step keeps tells = claim_lost setup words slots world place chunk found new laid kept inside_w inside_c is step keeps (tells.0 refl)
-by_claimed setup words slots world place chunk found new false laid kept inside_w inside_c is step keeps tells = claim_won setup words slots world place chunk found new laid kept inside_w inside_c is step keeps (λ bit. absurd (let no : false ≡ true = tells.1 bit in cc))
+by_claimed setup words slots world place chunk found new true laid kept inside_w inside_c of is step keeps tells = claim_lost setup words slots world place chunk found new laid kept inside_w inside_c of is step keeps (tells.0 refl)
+by_claimed setup words slots world place chunk found new false laid kept inside_w inside_c of is step keeps tells = claim_won setup words slots world place chunk found new laid kept inside_w inside_c of is step keeps (λ bit. absurd (let no : false ≡ true = tells.1 bit in cc))
 
 pub claim_kept : (setup : Setup) (words : List ℕ) (slots : List Stored) (world : World) (place chunk found new : ℕ) (claimed : Bool) (at : Spot) → at ≡ spot setup chunk
     → IsLaid setup → IsKept setup words slots world → place < length setup.writers → chunk < length setup.spots
+    → IsChunkOf setup (producer_of setup place) chunk
     → found ≡ get_or words at.page 0
     → Claims found new at.place at.layout → KeepsOthers found new at.place
     → (IsTrue claimed ↔ IsClaimed found at.place)
     → IsKept setup (set words at.page new) slots (world_after world (Claim place chunk found (not claimed)))
-claim_kept setup words slots world place chunk found new claimed at at_is laid kept inside_w inside_c =
+claim_kept setup words slots world place chunk found new claimed at at_is laid kept inside_w inside_c of =
     subst (λ (s : Spot). found ≡ get_or words s.page 0 → Claims found new s.place s.layout → KeepsOthers found new s.place → (IsTrue claimed ↔ IsClaimed found s.place)
     → IsKept setup (set words s.page new) slots (world_after world (Claim place chunk found (not claimed)))) (sym at_is)
-    (λ is step keeps tells. by_claimed setup words slots world place chunk found new claimed laid kept inside_w inside_c is step keeps tells)
+    (λ is step keeps tells. by_claimed setup words slots world place chunk found new claimed laid kept inside_w inside_c of is step keeps tells)

@@ -47,6 +47,7 @@ serviced_shown setup words slots world service kept owned =
       };
       owned = owned;
       writers = kept.writers;
+      own = kept.own;
     }
 
 pub serviced_kept : (setup : Setup) (words : List ℕ) (slots : List Stored) (world : World) (service : ServiceView) → IsKept setup words slots world
@@ -184,6 +185,7 @@ take_kept setup words slots world place chunk word header new content laid kept 
           (subst (λ t. ShowsSlot setup at.payload_size t (stored_at slots chunk)) (sym now) (record { room = slot.room; words = slot.words; body = tt }));
       owned = takes_owned looked place chunk content (looks_owned world chunk word header None kept.owned (λ one e. absurd cc)) w_inside c_inside ready;
       writers = kept.writers;
+      own = kept.own;
     }
 
 pub learn_kept : (setup : Setup) (words : List ℕ) (slots : List Stored) (world : World) (place chunk : ℕ) (content : Content)
@@ -239,4 +241,5 @@ release_kept setup words slots world chunk new body laid kept reading there free
           (subst (λ t. ShowsSlot setup at.payload_size t (stored_at slots chunk)) (sym now) (record { room = slot.room; words = tt; body = (body, there, free) }));
       owned = lets_go_owned world chunk was.0 was.1 was.2 kept.owned c_inside was.3;
       writers = kept.writers;
+      own = kept.own;
     }

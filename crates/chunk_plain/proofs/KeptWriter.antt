@@ -21,7 +21,7 @@ use Rattle.chunk_plain.proofs.EntrySteps.{heads_owned, stores_owned, completes_o
 use Rattle.chunk_plain.proofs.PageSteps.{sets_page, same_page}
 use Rattle.chunk_plain.proofs.Sealing.{length-ends_from}
 use Rattle.chunk_plain.proofs.Shown.{shown_page_only, shown_header, shown_slot}
-use Rattle.chunk_plain.proofs.Kept.{never_same}
+use Rattle.chunk_plain.proofs.Kept.{never_same, own_same}
 
 -- a chunk that a writer's view has as claimed is claimed by it
 pub claimed_by : (world : World) (place chunk : ℕ) → IsOwned world → 0 < times chunk (writer world place).claimed → status world chunk ≡ Claimed place
@@ -70,6 +70,7 @@ stamp_kept setup words slots world place chunk header laid kept inside_w inside_
           (subst (λ t. ShowsSlot setup at.payload_size t (stored_at slots chunk)) (sym now) (record { room = slot.room; words = tt; body = slot.body }));
       owned = stamps_owned world place chunk kept.owned w_inside c_inside mine unstamped;
       writers = length-set world.writers place view ∙ kept.writers;
+      own = own_same setup world.writers place view w_inside refl kept.own;
     }
 
 pub begin_kept : (setup : Setup) (words : List ℕ) (slots : List Stored) (world : World) (place chunk new : ℕ)
@@ -101,6 +102,7 @@ begin_kept setup words slots world place chunk new laid kept inside_w inside_c s
           (subst (λ t. ShowsSlot setup at.payload_size t (stored_at slots chunk)) (sym now) (record { room = slot.room; words = (refl, omega arith); body = tt }));
       owned = begins_owned world place chunk payload kept.owned w_inside c_inside stamped;
       writers = length-set world.writers place view ∙ kept.writers;
+      own = own_same setup world.writers place view w_inside refl kept.own;
     }
 
 -- ---- a body that goes out or comes back
@@ -135,6 +137,7 @@ body_kept setup words slots world chunk body laid kept lent =
           (shown.page chunk inside) (shown.header chunk inside) (lent_slot setup at.payload_size (status world chunk) (stored_at slots chunk) body lent (shown.slot chunk inside));
       owned = kept.owned;
       writers = kept.writers;
+      own = kept.own;
     }
 
 -- ---- set_header and publish
@@ -185,6 +188,7 @@ header_kept setup words slots world place chunk position header head laid kept i
           (subst (λ t. ShowsSlot setup at.payload_size t (stored_at slots chunk)) (sym now) (record { room = slot.room; words = (slot.words.0, inside); body = tt }));
       owned = heads_owned world place chunk position old head ends kept.owned w_inside c_inside holding follows (record { count = length-ends_from (published v position) 0 (head.count - 1); reads = reads });
       writers = length-set world.writers place view ∙ kept.writers;
+      own = own_same setup world.writers place view w_inside refl kept.own;
     }
 
 pub publish_kept : (setup : Setup) (words : List ℕ) (slots : List Stored) (world : World) (place chunk position : ℕ) (stored : List ℕ)
@@ -215,6 +219,7 @@ publish_kept setup words slots world place chunk position stored laid kept insid
           (record { room = let room = slot.room in omega (arith, many); words = (refl, slot.words.1); body = tt }));
       owned = stores_owned world place chunk position old stored kept.owned w_inside c_inside holding same;
       writers = length-set world.writers place view ∙ kept.writers;
+      own = own_same setup world.writers place view w_inside refl kept.own;
     }
 
 -- ---- complete
@@ -256,6 +261,7 @@ complete_kept setup words slots world place chunk position new body laid kept in
       owned = completes_owned world place chunk position old content kept.owned w_inside c_inside holding refl refl refl
           (let most = slot.words.1 in omega arith) (λ j less. whole.published j (let most = slot.words.1 in omega arith));
       writers = length-set world.writers place view ∙ kept.writers;
+      own = own_same setup world.writers place view w_inside refl kept.own;
     }
 
 -- ---- calls and letters
@@ -279,6 +285,7 @@ noted_kept setup words slots world place calls letters kept inside_w =
       };
       owned = notes_owned world place calls letters kept.owned w_inside;
       writers = length-set world.writers place view ∙ kept.writers;
+      own = own_same setup world.writers place view w_inside refl kept.own;
     }
 
 pub call_kept : (setup : Setup) (words : List ℕ) (slots : List Stored) (world : World) (place : ℕ) (noted_call : call.Call)

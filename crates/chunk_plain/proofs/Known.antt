@@ -16,7 +16,7 @@ use Rattle.commit_body.specs.declared.body.CommitBody.{CommitBody}
 use Rattle.trace_model.specs.Calls as call
 use Rattle.chunk_plain.specs.declared.setup.Spot.{Spot}
 use Rattle.chunk_plain.specs.declared.step.Step.TheVariants.{Claim, Stamp, SetHeader, Look, Take}
-use Rattle.chunk_plain.specs.Setup.{Setup, spot, IsLaid, from_of, id_at}
+use Rattle.chunk_plain.specs.Setup.{Setup, spot, IsLaid, IsChunkOf, producer_of, from_of, id_at}
 use Rattle.chunk_plain.specs.Payload.{byte_at, sealed_to, HasFragments}
 use Rattle.chunk_plain.specs.Views.{Content, WriterView, ServiceView, newcomer, fresh, taken_of}
 use Rattle.chunk_plain.specs.World.{World, Status, Unclaimed, Writing, Ready, Reading, status, writer}
@@ -106,17 +106,19 @@ module _ (setup : Setup) (words : List ℕ) (slots : List Stored) (world : World
   -- ---- claim
 
   pub claim_vain : (next : World) (place chunk found : ℕ) (at : Spot) → at ≡ spot setup chunk → IsLaid setup → place < length setup.writers → chunk < length setup.spots
+      → IsChunkOf setup (producer_of setup place) chunk
       → found ≡ get_or words at.page 0 → IsClaimed found at.place → next ≡ world_after world (Claim place chunk found false) → ∥ IsKept setup words slots next ∥₁
-  claim_vain next place chunk found at at_is laid inside_w inside_c is claimed next_is =
+  claim_vain next place chunk found at at_is laid inside_w inside_c of is claimed next_is =
       ∥∥₁_map kept (λ k. subst (IsKept setup words slots) (sym next_is)
-      (claim_seen setup words slots world place chunk found laid k inside_w inside_c (is ∙ ap (λ (s : Spot). get_or words s.page 0) at_is) (subst (λ (s : Spot). IsClaimed found s.place) at_is claimed)))
+      (claim_seen setup words slots world place chunk found laid k inside_w inside_c of (is ∙ ap (λ (s : Spot). get_or words s.page 0) at_is) (subst (λ (s : Spot). IsClaimed found s.place) at_is claimed)))
 
   pub claim_step : (next : World) (place chunk found new : ℕ) (claimed : Bool) (at : Spot) → at ≡ spot setup chunk → IsLaid setup → place < length setup.writers → chunk < length setup.spots
+      → IsChunkOf setup (producer_of setup place) chunk
       → found ≡ get_or words at.page 0 → Claims found new at.place at.layout → KeepsOthers found new at.place → (IsTrue claimed ↔ IsClaimed found at.place)
       → next ≡ world_after world (Claim place chunk found (not claimed)) → ∥ IsKept setup (set words at.page new) slots next ∥₁
-  claim_step next place chunk found new claimed at at_is laid inside_w inside_c is step keeps tells next_is =
+  claim_step next place chunk found new claimed at at_is laid inside_w inside_c of is step keeps tells next_is =
       subst (λ w. ∥ IsKept setup (set words at.page new) slots w ∥₁) (sym next_is)
-      (∥∥₁_map kept (λ k. claim_kept setup words slots world place chunk found new claimed at at_is laid k inside_w inside_c is step keeps tells))
+      (∥∥₁_map kept (λ k. claim_kept setup words slots world place chunk found new claimed at at_is laid k inside_w inside_c of is step keeps tells))
 
   pub claim_free : (chunk found : ℕ) (at : Spot) → at ≡ spot setup chunk → chunk < length setup.spots → found ≡ get_or words at.page 0 → (IsClaimed found at.place → ⊥) → ∥ status world chunk ≡ Unclaimed ∥₁
   claim_free chunk found at at_is inside is clear =
@@ -251,13 +253,15 @@ module _ (setup : Setup) (words : List ℕ) (slots : List Stored) (world : World
 
   -- somebody has a chunk whose claim is in vain
   pub claim_had : (next : World) (place chunk found : ℕ) (at : Spot) → at ≡ spot setup chunk → IsLaid setup → place < length setup.writers → chunk < length setup.spots
+      → IsChunkOf setup (producer_of setup place) chunk
       → found ≡ get_or words at.page 0 → IsClaimed found at.place → next ≡ world_after world (Claim place chunk found false) → ∥ WasHad setup place chunk (writer next place) ∥₁
-  claim_had next place chunk found at at_is laid inside_w inside_c is claimed next_is =
-      ∥∥₁_map (claim_vain next place chunk found at at_is laid inside_w inside_c is claimed next_is) (λ k. record {
+  claim_had next place chunk found at at_is laid inside_w inside_c of is claimed next_is =
+      ∥∥₁_map (claim_vain next place chunk found at at_is laid inside_w inside_c of is claimed next_is) (λ k. record {
         world = next;
         writers = k.writers;
         chunks = k.shown.chunk_count;
         owned = k.owned;
+        own = k.own;
         view_is = refl;
         had = λ free. claim_taken chunk found at at_is inside_c is claimed (ap (λ (w : World). status w chunk) (sym next_is) ∙ free);
       })

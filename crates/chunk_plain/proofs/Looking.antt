@@ -16,7 +16,7 @@ use Rattle.chunk_plain.specs.Stored.{Stored, stored_at}
 use Rattle.chunk_plain.specs.Shows.{state_of, ShowsPage, ShowsHeader, ShowsSlot, ShowsPayload, IsHeader, page_word, header_word}
 use Rattle.chunk_plain.specs.Owned.{times}
 use Rattle.chunk_plain.specs.Drafts.{StillHas}
-use Rattle.chunk_plain.specs.Words.{IsServing, IsOfHeader, FindsWritten, ShowsFound, IsTakenPayload}
+use Rattle.chunk_plain.specs.Words.{IsServing, WasSeen, IsOfHeader, FindsWritten, ShowsFound, IsTakenPayload}
 use Rattle.chunk_plain.specs.Plain.{found_in, IsKept}
 use Rattle.chunk_plain.proofs.States.{writing_status}
 use Rattle.chunk_plain.proofs.Lists.{at_some, at_one}
@@ -76,6 +76,18 @@ module _ (setup : Setup) (words : List ℕ) (slots : List Stored) (world : World
   pub finds_written : (chunk word : ℕ) (header : ChunkHeader) → chunk < length setup.spots → word ≡ page_word setup words chunk
       → header ≡ unpacked (header_word setup words chunk) → FindsWritten setup chunk word header world.service (found_in (status world chunk))
   finds_written chunk word header inside word_is header_is = finds_by chunk word header (status world chunk) refl inside word_is header_is
+
+  pub was_seen : (chunk word : ℕ) → chunk < length setup.spots → word ≡ page_word setup words chunk → ∥ WasSeen setup chunk word world.service ∥₁
+  was_seen chunk word inside word_is =
+      ∥∥₁_map kept (λ k. record {
+        world = world;
+        writers = k.writers;
+        chunks = k.shown.chunk_count;
+        owned = k.owned;
+        own = k.own;
+        view_is = refl;
+        state = subst (λ w. HasState w (spot setup chunk).place (state_of (status world chunk))) (sym word_is) (k.shown.page chunk inside).state;
+      })
 
   pub look_shown : (chunk word header : ℕ) → chunk < length setup.spots → word ≡ page_word setup words chunk → header ≡ header_word setup words chunk
       → ∥ (ShowsPage setup world (spot setup chunk) word (status world chunk) × ShowsHeader setup header (status world chunk)) ∥₁

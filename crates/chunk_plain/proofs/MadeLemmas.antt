@@ -139,6 +139,7 @@ first_kept setup slots o =
       };
       owned = first_owned setup;
       writers = length-map setup.writers (λ _. newcomer);
+      own = λ k i ask at. absurd (some-ne-none ask (sym (subst (λ (v : WriterView). At v.asked i ask) (fresh k) at)));
     }
 
 pub all_zeros : (setup : Setup) (words : List ℕ) (slots : List Stored) → words ≡ replicate (setup.pages + length setup.spots) 0 → HasFreeSlots setup.spots (length setup.spots) slots → AllZero words slots

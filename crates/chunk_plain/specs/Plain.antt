@@ -14,7 +14,7 @@ use Rattle.chunk_plain.specs.Drafts.{draft_at, head_at, ends_by}
 use Rattle.chunk_plain.specs.Stored.{Stored}
 use Rattle.chunk_plain.specs.Shows.{content_of, IsShown}
 use Rattle.chunk_plain.specs.Views as views
-use Rattle.chunk_plain.specs.Words.{IsPublished, call_of, event_of, committed_of}
+use Rattle.chunk_plain.specs.Words.{IsPublished, AskTheirOwn, call_of, event_of, committed_of}
 
 -- nothing is claimed, and nobody has done anything
 abbrev pub first_world : Setup → World
@@ -83,8 +83,9 @@ pub record StandsWhole (size : ℕ) (view : WriterView) (position : ℕ) (body :
   pub size_is : vec_len body.payload ≡ size
   pub published : IsPublished view position body.payload.items
 
--- words and slots show the world, and the world is owned
+-- words and slots show the world, the world is owned, and each writer claimed chunks of its own producer alone
 pub record IsKept (setup : Setup) (words : List ℕ) (slots : List Stored) (world : World) : Type 0 where
   pub shown : IsShown setup words slots world
   pub owned : IsOwned world
   pub writers : length world.writers ≡ length setup.writers
+  pub own : AskTheirOwn setup world.writers

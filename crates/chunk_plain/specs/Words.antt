@@ -22,12 +22,12 @@ use Rattle.chunk_plain.specs.declared.tokens.Taken.{Taken as TakenToken}
 use Rattle.chunk_plain.specs.declared.tokens.NotComplete.{NotComplete}
 use Rattle.chunk_plain.specs.Setup.{Setup, spot, producer_of, from_of, IsChunkOf, id_at}
 use Rattle.chunk_plain.specs.Payload.{byte_at, byte_in, sealed_to}
-use Rattle.chunk_plain.specs.Views.{At, Ask, Content, BegunChunk, chunk_of, WriterView, Found, Look, ServiceView, taken_of, Noted, Arrive, Partial, Patched, Closed, Read, Committed}
+use Rattle.chunk_plain.specs.Views.{At, Ask, Content, BegunChunk, chunk_of, WriterView, newcomer, Found, Look, ServiceView, taken_of, Noted, Arrive, Partial, Patched, Closed, Read, Committed}
 use Rattle.chunk_plain.specs.Steps.{claims, stamps, begins, redrafts, looks_at, takes_in, learns}
 use Rattle.chunk_plain.specs.World.{World, Unclaimed, status, writer}
 use Rattle.chunk_plain.specs.Owned.{times, IsOwned}
 use Rattle.chunk_plain.specs.Drafts.{MayFollow, IsFound, StillHas, head_of, draft_at, head_at, published}
-use Rattle.chunk_plain.specs.Shows.{content_of}
+use Rattle.chunk_plain.specs.Shows.{state_of, content_of}
 
 -- Between two calls
 
@@ -83,12 +83,19 @@ pub record TriesClaim (setup : Setup) (chunk : ℕ) (won : Bool) (old new : Writ
   pub fresh : won ≡ true → times chunk old.claimed ≡ 0
   pub view : new ≡ claims old chunk found won
 
--- In some world of the table, in which each chunk is owned by exactly one, the writer at this place knows this and somebody has the chunk.
+-- each claim of a writer is of a chunk of its own producer
+abbrev pub AskTheirOwn : Setup → List WriterView → Type 0
+AskTheirOwn setup writers = (place i : ℕ) (ask : Ask) → At (slice_index_or writers place newcomer).asked i ask
+    → IsChunkOf setup (producer_of setup place) ask.chunk
+
+-- In some world of the table, in which each chunk is owned by exactly one and each writer claimed its own producer's alone, the writer at
+-- this place knows this and somebody has the chunk.
 pub record WasHad (setup : Setup) (place chunk : ℕ) (view : WriterView) : Type 0 where
   pub world : World
   pub writers : length world.writers ≡ length setup.writers
   pub chunks : length world.chunks ≡ length setup.spots
   pub owned : IsOwned world
+  pub own : AskTheirOwn setup world.writers
   pub view_is : writer world place ≡ view
   pub had : status world chunk ≡ Unclaimed → ⊥
 
@@ -158,8 +165,21 @@ pub record FindsWritten (setup : Setup) (chunk word : ℕ) (header : ChunkHeader
   pub some : HasState word (spot setup chunk).place BeingWritten → (one : Found) × (found ≡ Some one) × IsOfHeader setup header view one
   pub none : (HasState word (spot setup chunk).place BeingWritten → ⊥) → found ≡ None
 
--- the chunk was looked at: page word, header and what stood in it join the view
+-- In some world of the table, in which each chunk is owned by exactly one and each writer claimed its own producer's alone, the service
+-- knows this and the page word has the chunk in the state that it has there.
+pub record WasSeen (setup : Setup) (chunk word : ℕ) (view : ServiceView) : Type 0 where
+  pub world : World
+  pub writers : length world.writers ≡ length setup.writers
+  pub chunks : length world.chunks ≡ length setup.spots
+  pub owned : IsOwned world
+  pub own : AskTheirOwn setup world.writers
+  pub view_is : world.service ≡ view
+  pub state : HasState word (spot setup chunk).place (state_of (status world chunk))
+
+-- The chunk was looked at: page word, header and what stood in it join the view. The page word is one that the chunk had while the service
+-- knew what it knew before.
 pub record LooksAt (setup : Setup) (chunk word : ℕ) (header : ChunkHeader) (old new : ServiceView) : Type 0 where
+  pub seen : ∥ WasSeen setup chunk word old ∥₁
   pub found : Option Found
   pub finds : FindsWritten setup chunk word header old found
   pub view : new ≡ looks_at old chunk word (packed header) found

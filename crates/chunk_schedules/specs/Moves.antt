@@ -6,7 +6,7 @@ use Rattle.page_geometry.specs.declared.chunk_state.ChunkState.TheVariants.{Bein
 use Rattle.page_geometry.specs.Header.{packed}
 use Rattle.page_geometry.specs.PageBits.{HasState}
 use Rattle.trace_model.specs.Calls.{Call}
-use Rattle.chunk_plain.specs.Setup.{sequence_of, Setup, spot, id_at}
+use Rattle.chunk_plain.specs.Setup.{sequence_of, Setup, spot, producer_of, IsChunkOf, id_at}
 use Rattle.chunk_plain.specs.Payload.{byte_of, byte_at, byte_in, sealed_to}
 use Rattle.chunk_plain.specs.Views.{At, Head, no_head, Draft, fresh, Content, Completed, WriterView, asked_in, Found, Noted, Commit, Committed, taken_of}
 use Rattle.chunk_plain.specs.World.{World, Status, Unclaimed, Claimed, Stamped, Writing, Ready, Reading, status, writer}
@@ -191,7 +191,8 @@ pub record IsLastOf (view : WriterView) (flush chunks : ℕ) : Type 0 where
 
 -- Whether a move is possible in a world: the table's words allow it, and the seat that makes it has what it is about.
 abbrev pub MayMove : Setup → World → Move → Type 0
-MayMove setup world (Claims place chunk found) = IsWriter world place × IsChunk world chunk
+MayMove setup world (Claims place chunk found) =
+    IsWriter world place × IsChunk world chunk × IsChunkOf setup (producer_of setup place) chunk
 MayMove setup world (Stamps place chunk) =
     IsWriter world place × IsChunk world chunk × (0 < times chunk (writer world place).claimed) × ((writer world place).stamped ≡ None)
     × (length (writer world place).begun < POSITION_LIMIT)

@@ -5,7 +5,7 @@ use Rattle.std.specs.Int.{bit_at}
 use Rattle.atomic_table.specs.Table.{Allows, keeps}
 use Rattle.page_geometry.specs.PageBits.{IsClaimed}
 use Rattle.chunk_plain.specs.declared.step.Step.TheVariants.{Claim}
-use Rattle.chunk_plain.specs.Setup.{Setup, spot, IsLaid}
+use Rattle.chunk_plain.specs.Setup.{Setup, spot, IsLaid, IsChunkOf, producer_of}
 use Rattle.chunk_plain.specs.Views.{WriterView}
 use Rattle.chunk_plain.specs.World.{World, Unclaimed, status, writer}
 use Rattle.chunk_plain.specs.Steps.{claims}
@@ -13,6 +13,7 @@ use Rattle.chunk_plain.specs.Stored.{Stored}
 use Rattle.chunk_plain.specs.Shows.{claim_of, page_word}
 use Rattle.chunk_plain.specs.Plain.{world_after, IsKept}
 use Rattle.chunk_plain.proofs.Kept.{claim_seen}
+use Rattle.chunk_plain.proofs.LayingLemmas.{chunk_inside as chunk_of_table}
 use Rattle.chunk_schedules.specs.Moves.{Claims as ClaimsMove}
 use Rattle.chunk_schedules.specs.Schedules.{IsLed}
 use Rattle.chunk_schedules.proofs.Leading.{led_on}
@@ -45,19 +46,20 @@ asked_keep view chunk found true = record { letters = refl; begun = omega arith;
 asked_keep view chunk found false = claims_keep view chunk found false
 
 asked_kept : (setup : Setup) (words : List ℕ) (slots : List Stored) (world : World) (place chunk found : ℕ) (clear : Bool)
-    → IsLaid setup → IsKept setup words slots world → place < length setup.writers → chunk < length setup.spots
+    → IsLaid setup → IsKept setup words slots world → place < length setup.writers → chunk < length setup.spots → IsChunkOf setup (producer_of setup place) chunk
     → found ≡ page_word setup words chunk → (clear ≡ false → IsClaimed found (spot setup chunk).place)
     → IsKept setup words slots (asked_world world place chunk found clear)
-asked_kept setup words slots world place chunk found true laid kept inside_w inside is set_ = kept
-asked_kept setup words slots world place chunk found false laid kept inside_w inside is set_ = claim_seen setup words slots world place chunk found laid kept inside_w inside is (set_ refl)
+asked_kept setup words slots world place chunk found true laid kept inside_w inside of is set_ = kept
+asked_kept setup words slots world place chunk found false laid kept inside_w inside of is set_ = claim_seen setup words slots world place chunk found laid kept inside_w inside of is (set_ refl)
 
 -- where the claim bit is set the look is a claim in vain, and else it is no move
 asked_led : (setup : Setup) (marks : List World) (world : World) (place chunk found : ℕ) (clear : Bool) → IsLed setup marks world
-    → place < length world.writers → chunk < length world.chunks → (clear ≡ false → status world chunk ≡ Unclaimed → ⊥)
+    → place < length world.writers → chunk < length world.chunks → IsChunkOf setup (producer_of setup place) chunk
+    → (clear ≡ false → status world chunk ≡ Unclaimed → ⊥)
     → IsLed setup marks (asked_world world place chunk found clear)
-asked_led setup marks world place chunk found true led inside_w inside_c held = led
-asked_led setup marks world place chunk found false led inside_w inside_c held =
-    led_on setup marks world (world_after world (Claim place chunk found false)) (ClaimsMove place chunk found) led (inside_w, inside_c)
+asked_led setup marks world place chunk found true led inside_w inside_c of held = led
+asked_led setup marks world place chunk found false led inside_w inside_c of held =
+    led_on setup marks world (world_after world (Claim place chunk found false)) (ClaimsMove place chunk found) led (inside_w, inside_c, of)
     (claim_is world place chunk found false (status world chunk) (λ yes_. absurd cc) (λ _. held refl))
 
 -- and somebody has the chunk behind it
@@ -66,9 +68,10 @@ asked_had : (world : World) (place chunk found : ℕ) (clear : Bool) → clear �
 asked_had world place chunk found true unclear held free = absurd cc
 asked_had world place chunk found false unclear held free = held free
 
-pub asks_allowed : (setup : Setup) (count id k chunk : ℕ) (v : WriterView) → chunk < length setup.spots
+pub asks_allowed : (setup : Setup) (count id k chunk : ℕ) (v : WriterView) → IsChunkOf setup (producer_of setup k) chunk
     → Allows (IsShared setup) count id (Writer k 0 v, []) (front_place (spot setup chunk).page) (λ found. found) (Asks setup chunk (Writer k 0 v, []))
-asks_allowed setup count id k chunk v inside s r deep at small =
+asks_allowed setup count id k chunk v of s r deep at small =
+    let inside = chunk_of_table setup (producer_of setup k) chunk r.laid of in
     let at_ = spot setup chunk in let found = get_or s.words (front_place at_.page) 0 in let clear = is_clear found at_.place in
     let world = r.world in let f = r.manned.each id (Writer k 0 v) at in
     let inside_w = writer_inside setup s r id k 0 v at in let w_inside = world_inside setup s r id k 0 v at in
@@ -80,7 +83,7 @@ asks_allowed setup count id k chunk v inside s r deep at small =
     let change = asked_change world k chunk found clear w_inside in
     let turn = writer_turn setup world next r.roll s.views id k 0 0 v (asked_view (writer world k) chunk found clear) r.manned at
     change (λ d e. absurd (omega arith)) in
-    let kept = asked_kept setup r.front r.slots world k chunk found clear r.laid r.kept inside_w inside (page_is setup s r chunk inside) set_ in (
+    let kept = asked_kept setup r.front r.slots world k chunk found clear r.laid r.kept inside_w inside of (page_is setup s r chunk inside) set_ in (
       Writer k 0 (asked_view v chunk found clear),
       keeps,
       tt,
@@ -90,7 +93,7 @@ asks_allowed setup count id k chunk v inside s r deep at small =
         slots = r.slots;
         roll = roll;
         laid = r.laid;
-        led = asked_led setup r.roll.marks world k chunk found clear r.led w_inside c_inside held;
+        led = asked_led setup r.roll.marks world k chunk found clear r.led w_inside c_inside of held;
         kept = kept;
         words = words_loaded setup s.words r.front r.slots (front_place at_.page) r.words;
         mail = mail_by_writer setup world next (set s.words (front_place at_.page) found) k (asked_view (writer world k) chunk found clear) change

@@ -50,6 +50,7 @@ was_had setup front slots world place chunk view kept mine had = record {
   writers = kept.writers;
   chunks = kept.shown.chunk_count;
   owned = kept.owned;
+  own = kept.own;
   view_is = mine;
   had = had;
 }

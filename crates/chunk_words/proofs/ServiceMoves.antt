@@ -14,7 +14,7 @@ use Rattle.chunk_plain.specs.Steps.{looks_at, takes_in, served, serviced}
 use Rattle.chunk_plain.specs.Drafts.{head_of}
 use Rattle.chunk_plain.specs.Stored.{Stored, stored_at}
 use Rattle.chunk_plain.specs.Shows.{state_of, ShowsHeader, ShowsSlot, IsHeader, page_word, header_word}
-use Rattle.chunk_plain.specs.Words.{LooksAt}
+use Rattle.chunk_plain.specs.Words.{FindsWritten}
 use Rattle.chunk_plain.specs.Plain.{read_as, IsKept}
 use Rattle.chunk_plain.proofs.Owned.{looks_owned}
 use Rattle.chunk_plain.proofs.KeptService.{serviced_shown, header_reads, take_kept}
@@ -91,6 +91,15 @@ module _ (setup : Setup) (count id made : ℕ) (desk : Desk) where
         subst (λ z. IsShared setup (record { words = set s.words (front_place (spot setup chunk).page) found; homes = s.homes; views = set s.views id (Service 0 made desk seen z) })) (sym f.0)
             (serviced_allowed setup s r id (front_place (spot setup chunk).page) made desk watch seen v r.world.service at r.kept (λ _. goes_same r.world.service) (λ i tale there true_. true_.1) (stays_found found (spot setup chunk).place (status r.world chunk) state) r.led refl),
         record {
+          seen = ∣ record {
+            world = r.world;
+            writers = r.kept.writers;
+            chunks = r.kept.shown.chunk_count;
+            owned = r.kept.owned;
+            own = r.kept.own;
+            view_is = sym f.0;
+            state = state;
+          } ∣₁;
           new_is = refl;
           told = λ i position tale content there begun untaken.
               let ready = told_ready setup r.world tale position chunk content r.kept.owned (f.7 i tale there) begun (subst (λ (z : ServiceView). (taken_of z tale.place).count ≤ position) f.0 untaken) in
@@ -121,15 +130,14 @@ module _ (setup : Setup) (count id made : ℕ) (desk : Desk) where
             (led_on setup r.roll.marks r.world (serviced r.world view) (LooksMove chunk word (packed (unpacked header)) finds.found) r.led (may_look finds) refl) refl,
         record {
           peeked = refl;
-          view = view;
-          looks = record {
-            found = finds.found;
-            finds = subst (λ (z : ServiceView). Rattle.chunk_plain.specs.Words.FindsWritten setup chunk word (unpacked header) z finds.found) (sym f.0)
-                (subst (λ h. Rattle.chunk_plain.specs.Words.FindsWritten setup chunk word (unpacked h) r.world.service finds.found) (sym is) finds.says);
-            view = ap (λ z. looks_at z chunk word (packed (unpacked header)) finds.found) (sym f.0);
+          found = finds.found;
+          finds = subst (λ (z : ServiceView). FindsWritten setup chunk word (unpacked header) z finds.found) (sym f.0)
+              (subst (λ h. FindsWritten setup chunk word (unpacked h) r.world.service finds.found) (sym is) finds.says);
+          serves = record {
+            new_is = ap (λ (z : ServiceView). let m : Mine = (Service 0 made desk Nothing (looks_at z chunk word (packed (unpacked header)) finds.found), []) in m) (sym f.0);
+            seen = subst (λ (z : ServiceView). IsSeen (looks_at z chunk word (packed (unpacked header)) finds.found)) (sym f.0)
+                (seen_now setup r.front r.slots (serviced r.world view) view kept refl);
           };
-          new_is = refl;
-          seen = seen_now setup r.front r.slots (serviced r.world view) view kept refl;
         },
       )
     where

@@ -8,7 +8,7 @@ use Rattle.page_geometry.specs.PageBits.{HasState, SetsState, Claims as ClaimsBi
 use Rattle.page_geometry.specs.declared.chunk_state.ChunkState.TheVariants as state
 use Rattle.commit_body.specs.declared.body.CommitBody.{CommitBody}
 use Rattle.chunk_plain.specs.declared.step.Step.TheVariants.{Claim}
-use Rattle.chunk_plain.specs.Setup.{Setup, spot}
+use Rattle.chunk_plain.specs.Setup.{Setup, spot, producer_of, IsChunkOf}
 use Rattle.chunk_plain.specs.Payload.{byte_of, byte_at, sealed_to, HasFragments}
 use Rattle.chunk_plain.specs.Views.{At, Head, no_head, fresh, Draft, Held, WriterView}
 use Rattle.chunk_plain.specs.World.{World, Status, Unclaimed, Claimed, Stamped, Writing, status, writer}
@@ -19,6 +19,7 @@ use Rattle.chunk_plain.specs.Stored.{Stored, nothing_stored, stored_at}
 use Rattle.chunk_plain.specs.Shows.{claim_of, IsHeader, page_word}
 use Rattle.chunk_plain.specs.Plain.{world_after, IsLent, IsKept}
 use Rattle.chunk_plain.proofs.Kept.{claim_kept, claim_bit_free}
+use Rattle.chunk_plain.proofs.LayingLemmas.{chunk_inside as chunk_of_table}
 use Rattle.chunk_plain.proofs.KeptWriter.{claimed_by, body_of_claimed, stamp_kept, begin_kept, body_kept, held_status, held_chunk, held_slot, header_kept, publish_kept}
 use Rattle.chunk_plain.proofs.Sealing.{word_bytes, length-ends_from}
 use Rattle.chunk_schedules.specs.Moves.{Claims as ClaimsMove, Stamps as StampsMove, Begins as BeginsMove, SetsHeader as SetsHeaderMove, Publishes as PublishesMove, MaySetHeader}
@@ -91,10 +92,11 @@ pub claims_keep : (view : WriterView) (chunk found : ℕ) (won : Bool) → Keeps
 claims_keep view chunk found true = record { letters = refl; begun = omega arith; calls = omega arith }
 claims_keep view chunk found false = record { letters = refl; begun = omega arith; calls = omega arith }
 
-pub claims_allowed : (setup : Setup) (count id k chunk mask : ℕ) (v : WriterView) → chunk < length setup.spots
+pub claims_allowed : (setup : Setup) (count id k chunk mask : ℕ) (v : WriterView) → IsChunkOf setup (producer_of setup k) chunk
     → ((word : ℕ) → ClaimsBit word (bit_or word mask) (spot setup chunk).place (spot setup chunk).layout) → ((word : ℕ) → KeepsOthers word (bit_or word mask) (spot setup chunk).place)
     → Allows (IsShared setup) count id (Writer k 0 v, []) (front_place (spot setup chunk).page) (λ found. bit_or found mask) (Claims setup chunk (Writer k 0 v, []))
-claims_allowed setup count id k chunk mask v inside sets keep s r deep at small =
+claims_allowed setup count id k chunk mask v of sets keep s r deep at small =
+    let inside = chunk_of_table setup (producer_of setup k) chunk r.laid of in
     let at_ = spot setup chunk in let found = get_or s.words (front_place at_.page) 0 in let new = bit_or found mask in
     let world = r.world in let f = r.manned.each id (Writer k 0 v) at in
     let claimed = bit_at found (32 + at_.place) == 1 in let won = is_clear found at_.place in
@@ -106,7 +108,7 @@ claims_allowed setup count id k chunk mask v inside sets keep s r deep at small 
     (λ one. absurd (let set_ : claimed ≡ true = (set_is found at_.place).1 one in grind (arith, nat_tests, set_, yes_))) in
     let held : won ≡ false → status world chunk ≡ Unclaimed → ⊥ = λ no_. bit_held found at_.place (status world chunk)
     (subst (λ w. bit_at w (32 + at_.place) ≡ claim_of (status world chunk)) (sym is) (r.kept.shown.page chunk inside).claim) (grind (arith, nat_tests, no_)) in
-    let kept = claim_kept setup r.front r.slots world k chunk found new claimed at_ refl r.laid r.kept inside_w inside is (sets found) (keep found) (set_is found at_.place) in
+    let kept = claim_kept setup r.front r.slots world k chunk found new claimed at_ refl r.laid r.kept inside_w inside of is (sets found) (keep found) (set_is found at_.place) in
     let change = claim_change world k chunk found won w_inside c_inside free in
     let turn = writer_turn setup world next r.roll s.views id k 0 0 v (claims (writer world k) chunk found won) r.manned at
     change (λ d e. absurd (omega arith)) in (
@@ -120,7 +122,7 @@ claims_allowed setup count id k chunk mask v inside sets keep s r deep at small 
         roll = with_hand r.roll k 0;
         laid = r.laid;
         kept = kept;
-        led = led_on setup r.roll.marks world next (ClaimsMove k chunk found) r.led (w_inside, c_inside) (claim_is world k chunk found won (status world chunk) free held);
+        led = led_on setup r.roll.marks world next (ClaimsMove k chunk found) r.led (w_inside, c_inside, of) (claim_is world k chunk found won (status world chunk) free held);
         words = words_front setup s.words r.front r.slots at_.page new (page_front setup s r chunk inside) (front_many setup s r) r.words;
         mail = mail_by_writer setup world next (set s.words (front_place at_.page) new) k (claims (writer world k) chunk found won)
             change (claims_keep (writer world k) chunk found won)

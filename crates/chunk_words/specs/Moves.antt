@@ -20,7 +20,7 @@ use Rattle.chunk_plain.specs.Owned.{times, IsOwned}
 use Rattle.chunk_plain.specs.Drafts.{draft_at, head_at, ends_by, head_of}
 use Rattle.chunk_plain.specs.Shows.{IsBodyOf, content_of}
 use Rattle.chunk_plain.specs.Setup.{Setup, spot, sequence_of, from_of, id_at}
-use Rattle.chunk_plain.specs.Words.{WasHad, LooksAt, call_of, event_of, committed_of}
+use Rattle.chunk_plain.specs.Words.{WasHad, WasSeen, FindsWritten, call_of, event_of, committed_of}
 use Rattle.chunk_schedules.specs.Moves.{IsLastOf}
 use Rattle.chunk_words.specs.declared.moves.Move.{Move}
 use Rattle.chunk_words.specs.declared.moves.Move.TheVariants.{Ask, Claim, Stamp, Begin, SetHeader, Publish, Fetch, Complete as CompleteStep, Call as CallStep, Peek, Find, Know, Miss, Take, Load, Learn, Lift, Release, Event, NoteRead, Recall, Mark, Commit, LearnRequest, Answer, Request, NoteRequest, ReadAnswer, Compare}
@@ -143,8 +143,9 @@ Completes setup chunk position body me new =
 abbrev pub Notes : Call → Mine → Mine → Type 0
 Notes call me new = new ≡ (by_writer 0 (λ view. notes_call view call) me.0, [])
 
--- the page word is found and watched; it shows the chunk complete where that was told
+-- The page word is found and watched. It is the chunk's, with the state that the chunk has now; it shows the chunk complete where that was told.
 pub record Peeks (setup : Setup) (chunk : ℕ) (me : Mine) (found : ℕ) (new : Mine) : Type 0 where
+  pub seen : ∥ WasSeen setup chunk found (service_of me.0) ∥₁
   pub new_is : new ≡ (by_service 0 (Peeked chunk found) (λ view. view) me.0, [])
   pub told : TellsComplete setup chunk found (service_of me.0) (desk_of me.0)
 
@@ -153,18 +154,17 @@ pub record ReadsHeader (chunk word : ℕ) (me : Mine) (found : ℕ) (new : Mine)
   pub peeked : watch_of me.0 ≡ Peeked chunk word
   pub new_is : new ≡ (by_service 0 (Known chunk word found) (λ view. view) me.0, [])
 
--- The chunk is looked at. The look has the page word that was found before, and the header word that is found now.
-pub record Looks (setup : Setup) (chunk word : ℕ) (me : Mine) (header : ℕ) (new : Mine) : Type 0 where
-  pub peeked : watch_of me.0 ≡ Peeked chunk word
-  pub view : ServiceView
-  pub looks : LooksAt setup chunk word (unpacked header) (service_of me.0) view
-  pub new_is : new ≡ (by_service 0 Nothing (λ _. view) me.0, [])
-  pub seen : IsSeen view
-
 -- the service's view changes in a known way, and nothing is watched
 pub record Serves (step : ServiceView → ServiceView) (me new : Mine) : Type 0 where
   pub new_is : new ≡ (by_service 0 Nothing step me.0, [])
   pub seen : IsSeen (step (service_of me.0))
+
+-- The chunk is looked at. The look has the page word that was found before, and the header word that is found now.
+pub record Looks (setup : Setup) (chunk word : ℕ) (me : Mine) (header : ℕ) (new : Mine) : Type 0 where
+  pub peeked : watch_of me.0 ≡ Peeked chunk word
+  pub found : Option Found
+  pub finds : FindsWritten setup chunk word (unpacked header) (service_of me.0) found
+  pub serves : Serves (λ view. looks_at view chunk word (packed (unpacked header)) found) me new
 
 -- a look is noted that has the page word and the header word that were found before
 pub record Misses (chunk word : ℕ) (header : ChunkHeader) (me new : Mine) : Type 0 where

@@ -1,7 +1,7 @@
 //! The steps of a writer's seat: each is one atomic step on the table.
 ghost use Rattle.std.specs.Prelude.{◌≡◌, ◌+◌, ◌<◌, Some, None, length, IsSome, IfSome};
 ghost use Rattle.chunk_plain.specs.declared.tokens.TheConstants.{POSITION_LIMIT};
-ghost use Rattle.chunk_plain.specs.Setup.{spot, id_at};
+ghost use Rattle.chunk_plain.specs.Setup.{spot, producer_of, IsChunkOf, id_at};
 ghost use Rattle.chunk_plain.specs.Drafts.{draft_at, IsHolding};
 ghost use Rattle.chunk_plain.specs.Plain.{StandsWhole};
 ghost use Rattle.chunk_plain.specs.Words.{HasClaimed, call_of};
@@ -25,7 +25,7 @@ impl HostTable {
     /// lost; else the seat knows what it knew.
     pub(crate) fn step_ask(&self, seat: &mut WriterSeat, chunk: u32) -> u64
         requires seat { CanStep self.now seat.old }
-        requires chunk { chunk < length self.now.layout.spots }
+        requires chunk { IsChunkOf self.now.layout (producer_of self.now.layout seat.old.place) chunk }
         ensures { Leaves seat.old seat.new (λ me new. Asks self.now.layout chunk me result new) }
     {
         let spot = self.layout.spot(chunk);
@@ -45,7 +45,7 @@ impl HostTable {
     /// Sets the claim bit of a chunk, and the layout of its page.
     pub(crate) fn step_claim(&self, seat: &mut WriterSeat, chunk: u32) -> u64
         requires seat { CanStep self.now seat.old }
-        requires chunk { chunk < length self.now.layout.spots }
+        requires chunk { IsChunkOf self.now.layout (producer_of self.now.layout seat.old.place) chunk }
         ensures { Leaves seat.old seat.new (λ me new. Claims self.now.layout chunk me result new) }
     {
         let spot = self.layout.spot(chunk);

@@ -19,7 +19,7 @@ invariant_of-self-clause-kept c = let self = c.args.self.now in
     let inside_c : c.args.chunk < length self.layout.spots = search rules in
     let is : found ≡ get_or self.words.items at.page 0 = c.index-found.ensures ∙ get_or_default_zero self.words.items at.page found inside in
     let next_is = subst (λ b. c.make_step.new.told.world ≡ world_after self.told.world (Claim place c.args.chunk found (not b))) c.if-claimed.true c.make_step.ensures.world in
-    known.claim_vain self.layout self.words.items self.slots.items self.told.world self.kept c.make_step.new.told.world place c.args.chunk found at c.spot-spot.ensures.spot self.laid c.requires.seat.inside inside_c is
+    known.claim_vain self.layout self.words.items self.slots.items self.told.world self.kept c.make_step.new.told.world place c.args.chunk found at c.spot-spot.ensures.spot self.laid c.requires.seat.inside inside_c c.requires.chunk is
     (c.claimed-claimed.ensures.0 c.if-claimed.true) next_is
 
 pub invariant_of-self-2-clause-kept : goal.invariant_of-self-2-clause-kept
@@ -28,7 +28,7 @@ invariant_of-self-2-clause-kept c = let self = c.args.self.now in
     let inside : at.page < length self.words.items = search rules in
     let inside_c : c.args.chunk < length self.layout.spots = search rules in
     let is : found ≡ get_or self.words.items at.page 0 = c.index-found.ensures ∙ get_or_default_zero self.words.items at.page found inside in
-    known.claim_step self.layout self.words.items self.slots.items self.told.world self.kept c.make_step-2.new.told.world c.args.seat.now.place c.args.chunk found c.with_claim.result c.claimed-claimed.result at c.spot-spot.ensures.spot self.laid c.requires.seat.inside inside_c is
+    known.claim_step self.layout self.words.items self.slots.items self.told.world self.kept c.make_step-2.new.told.world c.args.seat.now.place c.args.chunk found c.with_claim.result c.claimed-claimed.result at c.spot-spot.ensures.spot self.laid c.requires.seat.inside inside_c c.requires.chunk is
     c.with_claim.ensures.step c.with_claim.ensures.others c.claimed-claimed.ensures c.make_step-2.ensures.world
 
 pub returns-then-claimed-clause-lost : goal.returns-then-claimed-clause-lost
@@ -51,7 +51,7 @@ returns-then-claimed-clause-had c =
     let inside_c : c.args.chunk < length self.layout.spots = search rules in
     let is : found ≡ get_or self.words.items at.page 0 = c.index-found.ensures ∙ get_or_default_zero self.words.items at.page found inside in
     let next_is = subst (λ b. c.make_step.new.told.world ≡ world_after self.told.world (Claim place c.args.chunk found (not b))) c.if-claimed.true c.make_step.ensures.world in
-    known.claim_had self.layout self.words.items self.slots.items self.told.world self.kept c.make_step.new.told.world place c.args.chunk found at c.spot-spot.ensures.spot self.laid c.requires.seat.inside inside_c is
+    known.claim_had self.layout self.words.items self.slots.items self.told.world self.kept c.make_step.new.told.world place c.args.chunk found at c.spot-spot.ensures.spot self.laid c.requires.seat.inside inside_c c.requires.chunk is
     (c.claimed-claimed.ensures.0 c.if-claimed.true) next_is
 
 pub returns-then-claimed-clause-told_lost : goal.returns-then-claimed-clause-told_lost

@@ -1,7 +1,7 @@
 use Rattle.std.proofs.Common.{◌≡◌, true, false, subst, sym, ap, ◌∙◌}
 use Rattle.page_geometry.specs.PageBits.{IsClaimed}
 use Rattle.chunk_plain.specs.declared.setup.Spot.{Spot}
-use Rattle.chunk_plain.specs.Setup.{spot}
+use Rattle.chunk_plain.specs.Setup.{spot, producer_of, IsChunkOf}
 use Rattle.chunk_plain.specs.Steps.{claims}
 use Rattle.chunk_plain.specs.Words.{WasHad}
 use Rattle.chunk_plain.proofs.Resting.{claims_rest}
@@ -10,6 +10,11 @@ use Rattle.chunk_words.specs.Moves.{Mine, is_clear}
 use Rattle.chunk_words.proofs.Rests.{sits_now}
 use Rattle.chunk_words.proofs.Asking.{seen_claimed, asked_in_vain, claimed_behind}
 use Rattle.chunk_words.proofs.host.HostTable.claim_try.Goals as goal
+
+pub step_claim-found-requires-clause-chunk : goal.step_claim-found-requires-clause-chunk
+step_claim-found-requires-clause-chunk c =
+    let setup = c.args.self.now.layout in
+    subst (λ p. IsChunkOf setup (producer_of setup p) c.args.chunk) (sym c.step_ask-seen.ensures.place) c.requires.chunk
 
 pub returns-then-claimed-clause-seat : goal.returns-then-claimed-clause-seat
 returns-then-claimed-clause-seat c =

@@ -1,7 +1,7 @@
-use Rattle.std.proofs.Common.{◌∙◌, [], ap, subst}
+use Rattle.std.proofs.Common.{◌∙◌, [], ap, subst, rules}
 use Rattle.chunk_words.specs.Knows.{Knows, Nothing, service_of, by_service}
 use Rattle.chunk_words.specs.Moves.{Mine}
-use Rattle.chunk_words.proofs.Rests.{attends_now, looked_serving}
+use Rattle.chunk_words.proofs.Rests.{attends_now, attends_looked, looked_at, missed_at}
 use Rattle.page_geometry.specs.Header.{packed}
 use Rattle.std.proofs.Common.{None}
 use Rattle.chunk_plain.specs.Steps.{looks_at}
@@ -10,11 +10,31 @@ use Rattle.chunk_words.proofs.host.HostTable.find_complete.Goals as goal
 
 pub returns-then-ne-clause-seat : goal.returns-then-ne-clause-seat
 returns-then-ne-clause-seat c =
-    let self = c.args.self.now in let seat = c.args.seat.now in let looks = c.step_find.ensures.me in
-    let known = ap (λ (m : Mine). m.0) c.step_peek-word.ensures.me.new_is in
-    attends_now self seat c.step_find.new.seat Nothing looks.view c.requires.seat (c.step_find.ensures.seat ∙ c.step_peek-word.ensures.seat)
-    (looks.new_is ∙ ap (λ (k : Knows). let m : Mine = (by_service 0 Nothing (λ _. looks.view) k, []) in m) known)
-    (looked_serving self.layout c.args.chunk _ _ (service_of c.step_peek-word.new.seat.seat.me.0) (service_of seat.seat.me.0) looks.view (ap (λ (m : Mine). service_of m.0) c.step_peek-word.ensures.me.new_is) c.requires.seat.waits.serving looks.looks) looks.seen
+    let peek = c.step_peek-word in let find = c.step_find in
+    attends_looked c.args.self.now c.args.seat.now peek.new.seat find.new.seat c.args.chunk peek.result find.result c.requires.seat peek.ensures.seat find.ensures.seat
+    peek.ensures.me find.ensures.me
+
+pub returns-then-ne-clause-other : goal.returns-then-ne-clause-other
+returns-then-ne-clause-other c =
+    let seat = c.args.seat.now in let peek = c.step_peek-word in let find = c.step_find in
+    record {
+      count_fits = c.unpack-header.ensures.count;
+      flags_fit = c.unpack-header.ensures.flags;
+      other = search rules;
+      look = looked_at c.args.self.now.layout c.args.chunk peek.result find.result c.unpack-header.result seat.seat.me peek.new.seat.seat.me find.new.seat.seat.me
+          peek.ensures.me find.ensures.me c.unpack-header.ensures.header;
+    }
+
+pub returns-then-header-writer-clause-other : goal.returns-then-header-writer-clause-other
+returns-then-header-writer-clause-other c =
+    let peek = c.step_peek-word in let know = c.step_know in
+    record {
+      count_fits = c.unpack-header-2.ensures.count;
+      flags_fit = c.unpack-header-2.ensures.flags;
+      other = search rules;
+      look = missed_at c.args.self.now.layout c.args.chunk peek.result know.result c.unpack-header-2.result c.args.seat.now.seat.me peek.new.seat.seat.me know.new.seat.seat.me
+          c.step_miss.new.seat.seat.me peek.ensures.me know.ensures.me c.step_miss.ensures.me (search rules);
+    }
 
 pub returns-then-header-writer-clause-seat : goal.returns-then-header-writer-clause-seat
 returns-then-header-writer-clause-seat c =

@@ -1,13 +1,14 @@
-use Rattle.std.proofs.Common.{◌∙◌, [], ap}
-use Rattle.chunk_words.specs.Knows.{Knows, Nothing, service_of, by_service}
-use Rattle.chunk_words.specs.Moves.{Mine}
-use Rattle.chunk_words.proofs.Rests.{attends_now, looked_serving}
+use Rattle.chunk_words.proofs.Rests.{attends_looked, looked_at}
 use Rattle.chunk_words.proofs.host.HostTable.look.Goals as goal
+
+pub returns-clause-view : goal.returns-clause-view
+returns-clause-view c =
+    let seat = c.args.seat.now in let peek = c.step_peek-word in let find = c.step_find-found in
+    looked_at c.args.self.now.layout c.args.chunk peek.result find.result c.unpack.result seat.seat.me peek.new.seat.seat.me find.new.seat.seat.me
+    peek.ensures.me find.ensures.me c.unpack.ensures.header
 
 pub returns-clause-seat : goal.returns-clause-seat
 returns-clause-seat c =
-    let self = c.args.self.now in let seat = c.args.seat.now in let looks = c.step_find-found.ensures.me in
-    let known = ap (λ (m : Mine). m.0) c.step_peek-word.ensures.me.new_is in
-    attends_now self seat c.step_find-found.new.seat Nothing looks.view c.requires.seat (c.step_find-found.ensures.seat ∙ c.step_peek-word.ensures.seat)
-    (looks.new_is ∙ ap (λ (k : Knows). let m : Mine = (by_service 0 Nothing (λ _. looks.view) k, []) in m) known)
-    (looked_serving self.layout c.args.chunk _ _ (service_of c.step_peek-word.new.seat.seat.me.0) (service_of seat.seat.me.0) looks.view (ap (λ (m : Mine). service_of m.0) c.step_peek-word.ensures.me.new_is) c.requires.seat.waits.serving looks.looks) looks.seen
+    let peek = c.step_peek-word in let find = c.step_find-found in
+    attends_looked c.args.self.now c.args.seat.now peek.new.seat find.new.seat c.args.chunk peek.result find.result c.requires.seat peek.ensures.seat find.ensures.seat
+    peek.ensures.me find.ensures.me
