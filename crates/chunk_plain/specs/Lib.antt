@@ -1,3 +1,4 @@
+pub mod Calls
 pub mod Drafts
 pub mod Histories
 pub mod Laws

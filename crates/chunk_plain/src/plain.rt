@@ -1,10 +1,9 @@
 //! The table of one thread.
-ghost use Rattle.std.specs.Prelude.{◌≡◌, ℕ, ◌+◌, ◌-◌, ◌<◌, ◌≤◌, All, Option, Some, None, length, vec_len, IfOk};
+ghost use Rattle.std.specs.Prelude.{◌≡◌, ◌+◌, ◌-◌, ◌<◌, ◌≤◌, All, length, vec_len, IfOk};
 ghost use Rattle.trace_base.specs.declared.limits.TheConstants.{MAX_PRODUCERS, MAX_WRITERS, MAX_PAGES};
 ghost use Rattle.chunk_plain.specs.Setup.{IsLaid, range_of};
-ghost use Rattle.chunk_plain.specs.Laying.{setup_of};
-ghost use Rattle.chunk_plain.specs.Plain.{first_world, IsKept};
-ghost use Rattle.chunk_plain.specs.Made.{HasSeats, AllZero};
+ghost use Rattle.chunk_plain.specs.Plain.{IsKept};
+ghost use Rattle.chunk_plain.specs.Made.{HasSeats, IsNewPlain};
 
 use crate::layout::Layout;
 use crate::plain_seats::{PlainService, PlainWriter};
@@ -44,14 +43,8 @@ impl PlainTable {
         requires some_page { All (λ producer. 1 ≤ producer.pages) producers.now }
         requires pages { All (λ producer. producer.pages ≤ MAX_PAGES) producers.now }
         requires writers { length writers.now ≤ MAX_WRITERS }
-        ensures setup { IfOk result (λ made. ⟦<PlainTable as Words>⟧.means.setup made.0 ≡ setup_of producers.now writers.now) }
-        ensures told { IfOk result (λ made. ⟦<PlainTable as Words>⟧.means.told made.0
-            ≡ Some (first_world (setup_of producers.now writers.now))) }
-        ensures zero { IfOk result (λ made. AllZero made.0.words.items made.0.slots.items) }
-        ensures seats { IfOk result (λ made. HasSeats (length writers.now) made.1.items) }
-        ensures sits { IfOk result (λ made. (seat : PlainWriter) → seat.place < length writers.now
-            → ⟦<PlainTable as Words>⟧.means.sits made.0 seat) }
-        ensures serves { IfOk result (λ made. ⟦<PlainTable as Words>⟧.means.serves made.0 made.2) }
+        ensures { IfOk result (λ made. IsNewPlain ⟦<PlainTable as Words>⟧.means producers.now writers.now
+            made.0 made.0.words.items made.0.slots.items made.1.items made.2) }
     {
         let layout = Layout::make(alloc, producers, writers)?;
         let words = vec![in alloc; 0; layout.word_count()]?;

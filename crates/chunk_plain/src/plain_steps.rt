@@ -1,7 +1,7 @@
 //! The steps of the table of one thread that a call makes one behind another. Each is a method whose
 //! condition is what the step before it leaves, and behind each the table keeps what it keeps
 //! between two calls: so the order of the steps is the one in which threads will see them.
-ghost use Rattle.std.specs.Prelude.{◌≡◌, ℕ, ◌+◌, ◌*◌, ◌^◌, ◌<◌, ◌≤◌, Option, Some, None, length, vec_len, slice_set, slice_index_or, IsSome, IfSome};
+ghost use Rattle.std.specs.Prelude.{◌≡◌, ℕ, ◌+◌, ◌<◌, ◌≤◌, Some, None, length, vec_len, IsSome, IfSome};
 ghost use Rattle.page_geometry.specs.Header.{packed, unpacked};
 ghost use Rattle.page_geometry.specs.declared.chunk_header.TheConstants.{MAX_FLAGS};
 ghost use Rattle.trace_base.specs.declared.limits.TheConstants.{MAX_FRAGMENTS};
@@ -9,17 +9,18 @@ ghost use Rattle.page_geometry.specs.declared.chunk_state.ChunkState.TheVariants
 ghost use Rattle.page_geometry.specs.PageBits.{HasState};
 ghost use Rattle.chunk_plain.specs.declared.tokens.TheConstants.{POSITION_LIMIT};
 ghost use Rattle.chunk_plain.specs.declared.step.Step.TheVariants.{Stamp, Look, Take};
-ghost use Rattle.chunk_plain.specs.Setup.{Setup, spot, from_of, id_at};
+ghost use Rattle.chunk_plain.specs.Setup.{spot, from_of, id_at};
 ghost use Rattle.chunk_plain.specs.Payload.{byte_at, byte_in, StoredUpTo};
 ghost use Rattle.chunk_plain.specs.Views.{Content, fresh, taken_of};
-ghost use Rattle.chunk_plain.specs.World.{World, Unclaimed, Writing, Ready, Reading, status, writer};
+ghost use Rattle.chunk_plain.specs.World.{Unclaimed, Writing, Ready, Reading, status, writer};
 ghost use Rattle.chunk_plain.specs.Steps.{begins, completes, with_words, learns, drafted, moved, served, serviced, lets_go};
 ghost use Rattle.chunk_plain.specs.Owned.{times};
 ghost use Rattle.chunk_plain.specs.Drafts.{IsHolding, draft_at, head_at};
 ghost use Rattle.chunk_plain.specs.Stored.{stored_at};
 ghost use Rattle.chunk_plain.specs.Shows.{content_of, page_word, header_word};
-ghost use Rattle.chunk_plain.specs.Words.{HasClaimed, KeepsSealed, LooksAt};
+ghost use Rattle.chunk_plain.specs.Words.{HasClaimed, LooksAt};
 ghost use Rattle.chunk_plain.specs.Plain.{IsLent, StandsWhole, world_after};
+ghost use Rattle.chunk_plain.specs.Calls.{MayStoreWords};
 
 use crate::bytes::unpack;
 use crate::plain::PlainTable;
@@ -110,11 +111,7 @@ impl PlainTable {
         payload: &[u8],
     )
         requires place { place < length self.old.layout.writers }
-        requires held { IsHolding (writer self.old.told.world place) chunk position }
-        requires size { length payload.now ≡ (spot self.old.layout chunk).payload_size }
-        requires order { first ≤ end }
-        requires inside { 8 * end < length payload.now + 8 }
-        requires kept { KeepsSealed (writer self.old.told.world place) position payload.now }
+        requires may { MayStoreWords self.old.layout (writer self.old.told.world place) chunk position first end payload.now }
         ensures layout { self.new.layout ≡ self.old.layout }
         ensures words { StoredUpTo payload.now first end (draft_at (writer self.old.told.world place) position).words
             (stored_at self.new.slots.items chunk).words }

@@ -1,19 +1,19 @@
 //! The calls on a table of chunks, whatever its words lie in.
-ghost use Rattle.std.specs.Prelude.{◌≡◌, ℕ, ◌+◌, ◌-◌, ◌<◌, ◌≤◌, true, false, Option, Some, [], length, vec_len, IfSome, IfNone, IfOk, IfErr};
+ghost use Rattle.std.specs.Prelude.{◌≡◌, ◌-◌, ◌<◌, ◌≤◌, true, false, Option, Some, [], length, vec_len, IfSome, IfNone, IfOk, IfErr, MatchOption};
 ghost use Rattle.page_geometry.specs.declared.chunk_header.TheConstants.{MAX_FLAGS};
 ghost use Rattle.page_geometry.specs.Header.{packed};
 ghost use Rattle.trace_base.specs.declared.limits.TheConstants.{MAX_FRAGMENTS};
-ghost use Rattle.chunk_plain.specs.declared.tokens.TheConstants.{MAX_HELD, POSITION_LIMIT};
-ghost use Rattle.chunk_plain.specs.Setup.{spot, producer_of, IsChunkOf, IsLaid, id_at};
-ghost use Rattle.chunk_plain.specs.Payload.{sealed_to, HasFragments};
+ghost use Rattle.chunk_plain.specs.declared.tokens.TheConstants.{MAX_HELD};
+ghost use Rattle.chunk_plain.specs.Setup.{spot, producer_of, IsChunkOf, IsLaid};
 ghost use Rattle.chunk_plain.specs.Views.{Content, taken_of};
 ghost use Rattle.chunk_plain.specs.World.{World, Unclaimed, Claimed as ClaimedBy, Writing, Ready, Reading, status, writer};
 ghost use Rattle.chunk_plain.specs.Steps.{redrafts, with_head, completes, notes_call, lets_go, notes, notes_commit, moved, served, with_writer_view, serviced};
 ghost use Rattle.chunk_plain.specs.Owned.{times, held_count, IsOwned};
-ghost use Rattle.chunk_plain.specs.Drafts.{MayFollow, draft_at, head_at, published, ends_by, IsHolding};
+ghost use Rattle.chunk_plain.specs.Drafts.{draft_at, ends_by, IsHolding};
 ghost use Rattle.chunk_plain.specs.Shows.{ShowsPage, ShowsHeader, ShowsPayload};
 ghost use Rattle.chunk_plain.specs.Meaning.{Meaning, IsWriterStep, IsServiceStep};
-ghost use Rattle.chunk_plain.specs.Words.{IsAtRest, IsServing, LearntAsFound, LooksAgree, TriesClaim, WasHad, HasClaimed, IsBegun, BeginsChunk, KeepsSealed, IsPublished, PublishesBytes, completed_content, LooksAt, ShowsFound, IsTakenPayload, taken_content, TakesChunk, FindsOther, call_of, event_of, IsReadEvent, committed_of};
+ghost use Rattle.chunk_plain.specs.Words.{IsAtRest, IsServing, LearntAsFound, LooksAgree, TriesClaim, WasHad, IsBegun, BeginsChunk, IsPublished, PublishesBytes, completed_content, LooksAt, taken_content, TakesChunk, FindsOther, call_of, event_of, IsReadEvent, committed_of};
+ghost use Rattle.chunk_plain.specs.Calls.{MayBegin, MayGetHead, MayPublishRange, AsksForNext, LoadsPayload};
 
 use crate::notes::{ServiceEvent, WriterCall};
 use crate::tokens::{Claimed, Held, NotComplete, Seen, Taken};
@@ -41,21 +41,20 @@ pub trait Words {
             (means.view self.old seat.old) (means.view self.new seat.new)) }
         ensures had { IfNone result (∥ WasHad (means.setup self.old) (means.place seat.old) chunk (means.view self.new seat.new) ∥₁) }
         ensures step { IsWriterStep means self.old seat.old self.new seat.new }
-        ensures told_won { IfSome result (λ _. (world : World) → means.told self.old ≡ Some world → ∥ status world chunk ≡ Unclaimed ∥₁
+        ensures told { (world : World) → means.told self.old ≡ Some world → MatchOption result
+            ((status world chunk ≡ Unclaimed → ⊥)
+            × (means.told self.new ≡ Some (with_writer_view world (means.place seat.old) (means.view self.new seat.new))))
+            (λ _. ∥ status world chunk ≡ Unclaimed ∥₁
             × (means.told self.new ≡ Some (moved world (means.place seat.old) (means.view self.new seat.new) chunk
-            (ClaimedBy (means.place seat.old))))) }
-        ensures told_lost { IfNone result ((world : World) → means.told self.old ≡ Some world → (status world chunk ≡ Unclaimed → ⊥)
-            × (means.told self.new ≡ Some (with_writer_view world (means.place seat.old) (means.view self.new seat.new)))) };
+            (ClaimedBy (means.place seat.old))))) };
 
     /// The header of the chunk is stored with this id, that of the writer's next position, and with
     /// count 0, and then its state is set. The patches that the body brought before are dropped; what
     /// its payload holds is left over from other chunks.
     fn begin(&mut self, seat: &mut Self::Writer, claimed: Claimed, id: u32) -> Held
         requires seat { means.sits self.old seat.old }
-        requires claimed { HasClaimed (means.view self.old seat.old) claimed.chunk }
+        requires may { MayBegin (means.setup self.old) (means.place seat.old) (means.view self.old seat.old) claimed.chunk id }
         requires few { held_count (means.view self.old seat.old).begun < MAX_HELD }
-        requires id { id ≡ id_at (means.setup self.old) (means.place seat.old) (length (means.view self.old seat.old).begun) }
-        requires few_begun { length (means.view self.old seat.old).begun < POSITION_LIMIT }
         ensures held { IsBegun (means.setup self.old) claimed.chunk (length (means.view self.old seat.old).begun) result }
         ensures view { BeginsChunk (means.setup self.old) claimed.chunk (means.view self.old seat.old) (means.view self.new seat.new) }
         ensures step { IsWriterStep means self.old seat.old self.new seat.new }
@@ -68,11 +67,7 @@ pub trait Words {
     /// and finished before must stand in the copy as it was published: it may be read meanwhile.
     fn publish(&mut self, seat: &mut Self::Writer, held: &mut Held, from: u32, to: u32)
         requires seat { means.sits self.old seat.old }
-        requires held { IsHolding (means.view self.old seat.old) held.old.chunk held.old.position }
-        requires size { vec_len held.old.body.payload ≡ (spot (means.setup self.old) held.old.chunk).payload_size }
-        requires order { from ≤ to }
-        requires inside { to ≤ (spot (means.setup self.old) held.old.chunk).payload_size }
-        requires kept { KeepsSealed (means.view self.old seat.old) held.old.position held.old.body.payload.items }
+        requires may { MayPublishRange (means.setup self.old) (means.view self.old seat.old) held.old from to }
         ensures held { held.new ≡ held.old }
         ensures view { PublishesBytes held.old.chunk held.old.position from to held.old.body.payload.items
             (means.view self.old seat.old) (means.view self.new seat.new) }
@@ -85,14 +80,8 @@ pub trait Words {
     /// was published of the payload reads as so many.
     fn set_header(&mut self, seat: &mut Self::Writer, held: &mut Held, count: u16, flags: u8)
         requires seat { means.sits self.old seat.old }
-        requires held { IsHolding (means.view self.old seat.old) held.old.chunk held.old.position }
-        requires count_fits { count ≤ MAX_FRAGMENTS }
-        requires flags_fit { flags ≤ MAX_FLAGS }
-        requires follows { MayFollow (head_at (means.view self.old seat.old) held.old.position) (record { count = count; flags = flags }) }
-        requires reads { HasFragments (published (means.view self.old seat.old) held.old.position)
-            (ends_by (means.view self.old seat.old) held.old.position count) }
-        requires inside { sealed_to (ends_by (means.view self.old seat.old) held.old.position count)
-            ≤ (spot (means.setup self.old) held.old.chunk).payload_size }
+        requires may { MayGetHead (means.setup self.old) (means.view self.old seat.old) held.old.chunk held.old.position
+            (record { count = count; flags = flags }) }
         ensures held { held.new ≡ held.old }
         ensures view { means.view self.new seat.new ≡ redrafts (means.view self.old seat.old) held.old.chunk held.old.position
             (with_head (draft_at (means.view self.old seat.old) held.old.position) (record { count = count; flags = flags })
@@ -138,11 +127,8 @@ pub trait Words {
         requires seat { means.serves self.old seat.old }
         requires chunk { chunk < length (means.setup self.old).spots }
         requires size { length into.old ≡ (spot (means.setup self.old) chunk).payload_size }
-        ensures size { length into.new ≡ length into.old }
+        ensures loads { LoadsPayload (means.service_view self.old seat.old) chunk into.old into.new }
         ensures view { means.service_view self.new seat.new ≡ means.service_view self.old seat.old }
-        ensures found { ShowsFound (means.service_view self.old seat.old) chunk into.new }
-        ensures read { 0 < times chunk (means.service_view self.old seat.old).reading
-            → ∥ IsTakenPayload (means.service_view self.old seat.old) into.new ∥₁ }
         ensures step { IsServiceStep means self.old seat.old self.new seat.new }
         ensures shown { (world : World) → means.told self.old ≡ Some world → ∥ ShowsPayload (status world chunk) into.new ∥₁ }
         ensures told { (world : World) → means.told self.old ≡ Some world → means.told self.new ≡ Some world };
@@ -158,10 +144,7 @@ pub trait Words {
         id: u32,
     ) -> Result<Taken, NotComplete>
         requires seat { means.serves self.old seat.old }
-        requires chunk { chunk < length (means.setup self.old).spots }
-        requires writer { 1 ≤ writer }
-        requires writers { writer ≤ length (means.setup self.old).writers }
-        requires id { id ≡ id_at (means.setup self.old) (writer - 1) (taken_of (means.service_view self.old seat.old) (writer - 1)).count }
+        requires next { AsksForNext (means.setup self.old) (means.service_view self.old seat.old) chunk writer id }
         requires none_out { (means.service_view self.old seat.old).reading ≡ [] }
         ensures taken { IfOk result (λ taken. TakesChunk (means.setup self.old) chunk writer id taken
             (means.service_view self.old seat.old) (means.service_view self.new seat.new)) }

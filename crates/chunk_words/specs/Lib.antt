@@ -1,4 +1,3 @@
-pub mod Calls
 pub mod Knows
 pub mod Places
 pub mod GoesOn

@@ -11,7 +11,7 @@ ghost use Rattle.page_geometry.specs.Header.{packed};
 ghost use Rattle.page_geometry.specs.declared.chunk_state.ChunkState.TheVariants.{Complete};
 ghost use Rattle.chunk_plain.specs.Payload.{byte_of, byte_in};
 ghost use Rattle.chunk_plain.specs.Shows.{content_of};
-ghost use Rattle.chunk_words.specs.Calls.{AsksForNext, LoadsPayload};
+ghost use Rattle.chunk_plain.specs.Calls.{AsksForNext, LoadsPayload};
 ghost use Rattle.chunk_words.specs.Knows.{Unmade, desk_of, stage_of, service_of};
 ghost use Rattle.chunk_words.specs.Moves.{LoadsUpTo, FindsReady, Serves, WatchesNext};
 ghost use Rattle.chunk_words.specs.Seats.{IsService};

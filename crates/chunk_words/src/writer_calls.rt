@@ -2,11 +2,11 @@
 ghost use Rattle.std.specs.Prelude.{◌≡◌, ℕ, ◌+◌, ◌*◌, ◌<◌, ◌≤◌, true, false, Some, None, length, vec_len, IfSome, IfNone};
 ghost use Rattle.chunk_plain.specs.Setup.{spot, producer_of, IsChunkOf};
 ghost use Rattle.chunk_plain.specs.Payload.{byte_of, byte_in};
-ghost use Rattle.chunk_plain.specs.Drafts.{draft_at, published, ends_by, IsHolding};
+ghost use Rattle.chunk_plain.specs.Drafts.{draft_at, ends_by, IsHolding};
 ghost use Rattle.chunk_plain.specs.Steps.{redrafts, with_head, completes, notes_call};
 ghost use Rattle.chunk_plain.specs.Words.{TriesClaim, WasHad, IsBegun, BeginsChunk};
-ghost use Rattle.chunk_plain.specs.Words.{KeepsSealed, IsPublished, StaysOutside, PublishesBytes, completed_content, call_of};
-ghost use Rattle.chunk_words.specs.Calls.{MayBegin, MayGetHead, MayPublishRange};
+ghost use Rattle.chunk_plain.specs.Words.{IsPublished, StaysOutside, PublishesBytes, completed_content, call_of};
+ghost use Rattle.chunk_plain.specs.Calls.{MayBegin, MayGetHead, MayPublishRange, MayStoreWords};
 ghost use Rattle.chunk_words.specs.Knows.{view_of};
 ghost use Rattle.chunk_words.specs.Moves.{Stores};
 ghost use Rattle.chunk_words.specs.Sits.{Sits, CanStep, Leaves};
@@ -118,11 +118,7 @@ impl HostTable {
     )
         requires seat { CanStep self.now seat.old }
         requires chunk { chunk < length self.now.layout.spots }
-        requires held { IsHolding (view_of seat.old.seat.me.0) chunk position }
-        requires size { length copy.now ≡ (spot self.now.layout chunk).payload_size }
-        requires order { first ≤ end }
-        requires inside { 8 * end < length copy.now + 8 }
-        requires kept { KeepsSealed (view_of seat.old.seat.me.0) position copy.now }
+        requires may { MayStoreWords self.now.layout (view_of seat.old.seat.me.0) chunk position first end copy.now }
         ensures { Leaves seat.old seat.new (Stores chunk position first end copy.now) }
     {
         // Behind an atomic step all is read anew: so the loop reads no more than it has to.

@@ -5,7 +5,7 @@ ghost use Rattle.chunk_plain.specs.Setup.{spot, producer_of, IsChunkOf, id_at};
 ghost use Rattle.chunk_plain.specs.Drafts.{draft_at, IsHolding};
 ghost use Rattle.chunk_plain.specs.Plain.{StandsWhole};
 ghost use Rattle.chunk_plain.specs.Words.{HasClaimed, call_of};
-ghost use Rattle.chunk_words.specs.Calls.{MayGetHead};
+ghost use Rattle.chunk_plain.specs.Calls.{MayGetHead};
 ghost use Rattle.chunk_words.specs.Knows.{view_of};
 ghost use Rattle.chunk_words.specs.Moves.{Asks, Claims, Stamps, Begins, SetsHeader, Publishes, KeepsWord, Fetches, Completes, Notes, body_in};
 ghost use Rattle.chunk_words.specs.Places.{payload_start, payload_words};

@@ -1,4 +1,5 @@
-use Rattle.std.proofs.Common.{◌<◌, ◌∙◌, length, subst, sym, ap, arith, None}
+use Rattle.std.proofs.Common.{◌<◌, ◌∙◌, length, subst, sym, ap, arith, None, rules}
+use Rattle.std.proofs.lemmas.Grind.{common_steps}
 use Rattle.page_geometry.specs.Header.{packed}
 use Rattle.chunk_plain.specs.Setup.{Setup, spot}
 use Rattle.chunk_plain.specs.Words.{KeepsSealed, taken_content}
@@ -16,12 +17,16 @@ finish-requires-clause-sealed g c =
     let same = loaded.1 ∙ looked.1 in
     subst (λ v. KeepsSealed v c.in_ok-held.held.position c.in_ok-held.held.body.payload.items) (sym same) c.in_ok-held.ensures.sealed
 
-pub take-requires-clause-chunk : goal.take-requires-clause-chunk
-take-requires-clause-chunk g c =
-    let setup_is = c.finish.ensures.step.setup_stays ∙ (c.load.ensures.step.setup_stays ∙ (c.look-seen.ensures.step.setup_stays ∙ c.in_ok-held.ensures.step.setup_stays)) in
-    let laid = g.met.W.Words.laid c.args.table.now in
-    let inside = chunk_inside (g.W.Words.means.setup c.args.table.now) _ c.args.chunk laid c.requires.chunk in
-    subst (λ (s : Setup). c.args.chunk < length s.spots) (sym setup_is) inside
+pub take-requires-clause-next : goal.take-requires-clause-next
+take-requires-clause-next g c = record {
+  inside = let setup_is = c.finish.ensures.step.setup_stays ∙ (c.load.ensures.step.setup_stays ∙ (c.look-seen.ensures.step.setup_stays ∙ c.in_ok-held.ensures.step.setup_stays)) in
+      let laid = g.met.W.Words.laid c.args.table.now in
+      let inside = chunk_inside (g.W.Words.means.setup c.args.table.now) _ c.args.chunk laid c.requires.chunk in
+      subst (λ (s : Setup). c.args.chunk < length s.spots) (sym setup_is) inside;
+  least = first_of (search rules, grind (arith, common_steps));
+  most = first_of (search rules, grind (arith, common_steps));
+  id_is = first_of (search rules, grind (arith, common_steps));
+}
 
 pub first_six-requires : goal.first_six-requires
 first_six-requires g c =
@@ -29,7 +34,7 @@ first_six-requires g c =
     let laid = g.met.W.Words.laid c.args.table.now in
     let inside = chunk_inside (g.W.Words.means.setup c.args.table.now) _ c.args.chunk laid c.requires.chunk in
     let least = laid.least c.args.chunk inside in
-    let size = c.load.ensures.size ∙ c.requires.size in
+    let size = c.load.ensures.loads.size ∙ c.requires.size in
     omega (arith, size, least)
 
 pub first_six-requires-2 : goal.first_six-requires-2

@@ -1,4 +1,5 @@
-use Rattle.std.proofs.Common.{◌≡◌, ℕ, ◌<◌, ◌∙◌, length, subst, sym, refl, ap, arith}
+use Rattle.std.proofs.Common.{◌≡◌, ℕ, ◌<◌, ◌∙◌, length, subst, sym, refl, ap, arith, rules}
+use Rattle.std.proofs.lemmas.Grind.{common_steps}
 use Rattle.chunk_plain.specs.declared.tokens.Held.{Held as HeldToken}
 use Rattle.chunk_plain.specs.Payload.{byte_in}
 use Rattle.chunk_plain.specs.Views.{Draft, WriterView}
@@ -10,17 +11,31 @@ use Rattle.chunk_words_rows.proofs.Begun.{round_any, round_held}
 use Rattle.chunk_words_rows.proofs.threads.fill.Goals as goal
 use Rattle.trace_base.specs.Ids.{id_of}
 
-pub begin-held-requires-clause-claimed : goal.begin-held-requires-clause-claimed
-begin-held-requires-clause-claimed g c =
-    let view = g.W.Words.means.view in let won = c.in-Some.ensures.won in
-    subst (λ k. HasClaimed (view c.claim_try.new.self c.claim_try.new.seat) k) (sym c.in-Some.ensures.chunk)
-    (claims_has (view c.args.table.now c.args.seat.now) (view c.claim_try.new.self c.claim_try.new.seat) c.args.chunk won.found won.view)
+pub begin-held-requires-clause-may : goal.begin-held-requires-clause-may
+begin-held-requires-clause-may g c = record {
+  claimed = let view = g.W.Words.means.view in let won = c.in-Some.ensures.won in
+      subst (λ k. HasClaimed (view c.claim_try.new.self c.claim_try.new.seat) k) (sym c.in-Some.ensures.chunk)
+      (claims_has (view c.args.table.now c.args.seat.now) (view c.claim_try.new.self c.claim_try.new.seat) c.args.chunk won.found won.view);
+  id_is = let view = g.W.Words.means.view in
+      let step = c.in-Some.ensures.step in
+      let count : ℕ = length (view c.claim_try.new.self c.claim_try.new.seat).begun in
+      let from_is : from_of (g.W.Words.means.setup c.claim_try.new.self) (g.W.Words.means.place c.claim_try.new.seat) ≡ c.args.from =
+      ap (λ (s : Setup). from_of s (g.W.Words.means.place c.claim_try.new.seat)) step.setup_stays ∙ ap (from_of (g.W.Words.means.setup c.args.table.now)) step.place_stays ∙ c.requires.from in
+      c.id_of-id.ensures ∙ ap (id_of c.args.from) (c.requires.next ∙ sym (ap (λ (v : WriterView). length v.begun) c.in-Some.ensures.won.view))
+      ∙ ap (λ (f : ℕ). id_of f count) (sym from_is);
+  few_begun = first_of (search rules, grind (arith, common_steps));
+}
 
-pub publish-requires-clause-held : goal.publish-requires-clause-held
-publish-requires-clause-held g c =
-    let view = g.W.Words.means.view in let won = c.in-Some.ensures.won in let held = c.begin-held.result in
-    begins_holds (g.W.Words.means.setup c.claim_try.new.self) (view c.claim_try.new.self c.claim_try.new.seat) (view c.begin-held.new.self c.begin-held.new.seat) c.in-Some.claimed.chunk (length (view c.claim_try.new.self c.claim_try.new.seat).begun) held.chunk held.position
-    c.begin-held.ensures.view refl c.begin-held.ensures.held.chunk_is c.begin-held.ensures.held.position_is
+pub publish-requires-clause-may : goal.publish-requires-clause-may
+publish-requires-clause-may g c = record {
+  held = let view = g.W.Words.means.view in let won = c.in-Some.ensures.won in let held = c.begin-held.result in
+      begins_holds (g.W.Words.means.setup c.claim_try.new.self) (view c.claim_try.new.self c.claim_try.new.seat) (view c.begin-held.new.self c.begin-held.new.seat) c.in-Some.claimed.chunk (length (view c.claim_try.new.self c.claim_try.new.seat).begun) held.chunk held.position
+      c.begin-held.ensures.view refl c.begin-held.ensures.held.chunk_is c.begin-held.ensures.held.position_is;
+  size = first_of (search rules, grind (arith, common_steps));
+  order = first_of (search rules, grind (arith, common_steps));
+  inside = first_of (search rules, grind (arith, common_steps));
+  kept = first_of (search rules, grind (arith, common_steps));
+}
 
 pub complete-requires-clause-held : goal.complete-requires-clause-held
 complete-requires-clause-held g c =
@@ -62,12 +77,3 @@ returns-clause-none_held g c =
     c.begin-held.ensures.view.view c.publish.ensures.view.view c.complete.ensures.view in
     round_held old last c.in-Some.claimed.chunk content is c.requires.none_held
 
-pub begin-held-requires-clause-id : goal.begin-held-requires-clause-id
-begin-held-requires-clause-id g c =
-    let view = g.W.Words.means.view in
-    let step = c.in-Some.ensures.step in
-    let count : ℕ = length (view c.claim_try.new.self c.claim_try.new.seat).begun in
-    let from_is : from_of (g.W.Words.means.setup c.claim_try.new.self) (g.W.Words.means.place c.claim_try.new.seat) ≡ c.args.from =
-    ap (λ (s : Setup). from_of s (g.W.Words.means.place c.claim_try.new.seat)) step.setup_stays ∙ ap (from_of (g.W.Words.means.setup c.args.table.now)) step.place_stays ∙ c.requires.from in
-    c.id_of-id.ensures ∙ ap (id_of c.args.from) (c.requires.next ∙ sym (ap (λ (v : WriterView). length v.begun) c.in-Some.ensures.won.view))
-    ∙ ap (λ (f : ℕ). id_of f count) (sym from_is)

@@ -26,11 +26,20 @@ loop-chunk-init g c =
       );
     }
 
-pub begin-requires-clause-claimed : goal.begin-requires-clause-claimed
-begin-requires-clause-claimed g c =
-    let won = c.in-Some.ensures.won in
-    subst (λ d. HasClaimed (g.W.Words.means.view c.claim_try.new.self c.claim_try.new.seat) d) (sym c.in-Some.ensures.chunk)
-    (claims_has (g.W.Words.means.view c.loop-chunk.table c.loop-chunk.seat) (g.W.Words.means.view c.claim_try.new.self c.claim_try.new.seat) c.loop-chunk.chunk won.found won.view)
+-- the writer has begun no chunk by its claim, and its place and the set-up are as they were
+pub begin-requires-clause-may : goal.begin-requires-clause-may
+begin-requires-clause-may g c =
+    let i = c.loop-chunk.invariant in let mid = g.W.Words.means.view c.loop-chunk.table c.loop-chunk.seat in
+    let won = g.W.Words.means.view c.claim_try.new.self c.claim_try.new.seat in let wins = c.in-Some.ensures.won in
+    let same = turns.begun_same (g.W.Words.means.setup c.args.table.now) c.args.arbiter.now.first (c.loop-chunk.chunk - c.args.arbiter.now.first) c.loop-chunk.chunk (g.W.Words.means.view c.args.table.now c.args.seat.now) mid won i.vain
+    (subst (λ s. TriesClaim s c.loop-chunk.chunk true mid won) i.step.setup_stays wins) in
+    record {
+      claimed = subst (λ d. HasClaimed won d) (sym c.in-Some.ensures.chunk) (claims_has mid won c.loop-chunk.chunk wins.found wins.view);
+      id_is = turns.same_id (g.W.Words.means.setup c.args.table.now) (g.W.Words.means.setup c.claim_try.new.self) (g.W.Words.means.place c.args.seat.now) (g.W.Words.means.place c.claim_try.new.seat)
+          (length (g.W.Words.means.view c.args.table.now c.args.seat.now).begun) (length won.begun) c.args.id
+          (c.in-Some.ensures.step.setup_stays ∙ i.step.setup_stays) (c.in-Some.ensures.step.place_stays ∙ i.step.place_stays) same c.requires.id;
+      few_begun = subst (λ (n : ℕ). n < 4294967295) (sym same) c.requires.few_begun;
+    }
 
 pub begin-requires-clause-few : goal.begin-requires-clause-few
 begin-requires-clause-few g c =
@@ -39,25 +48,6 @@ begin-requires-clause-few g c =
     let wins = subst (λ s. TriesClaim s c.loop-chunk.chunk true mid won) i.step.setup_stays c.in-Some.ensures.won in
     let same = turns.held_same (g.W.Words.means.setup c.args.table.now) c.args.arbiter.now.first (c.loop-chunk.chunk - c.args.arbiter.now.first) c.loop-chunk.chunk (g.W.Words.means.view c.args.table.now c.args.seat.now) mid won i.vain wins in
     subst (λ l. held_count l < 2) (sym same) c.requires.few
-
--- the writer has begun no chunk by its claim, and its place and the set-up are as they were
-pub begin-requires-clause-id : goal.begin-requires-clause-id
-begin-requires-clause-id g c =
-    let i = c.loop-chunk.invariant in let mid = g.W.Words.means.view c.loop-chunk.table c.loop-chunk.seat in
-    let won = g.W.Words.means.view c.claim_try.new.self c.claim_try.new.seat in
-    let wins = subst (λ s. TriesClaim s c.loop-chunk.chunk true mid won) i.step.setup_stays c.in-Some.ensures.won in
-    let same = turns.begun_same (g.W.Words.means.setup c.args.table.now) c.args.arbiter.now.first (c.loop-chunk.chunk - c.args.arbiter.now.first) c.loop-chunk.chunk (g.W.Words.means.view c.args.table.now c.args.seat.now) mid won i.vain wins in
-    turns.same_id (g.W.Words.means.setup c.args.table.now) (g.W.Words.means.setup c.claim_try.new.self) (g.W.Words.means.place c.args.seat.now) (g.W.Words.means.place c.claim_try.new.seat)
-    (length (g.W.Words.means.view c.args.table.now c.args.seat.now).begun) (length won.begun) c.args.id
-    (c.in-Some.ensures.step.setup_stays ∙ i.step.setup_stays) (c.in-Some.ensures.step.place_stays ∙ i.step.place_stays) same c.requires.id
-
-pub begin-requires-clause-few_begun : goal.begin-requires-clause-few_begun
-begin-requires-clause-few_begun g c =
-    let i = c.loop-chunk.invariant in let mid = g.W.Words.means.view c.loop-chunk.table c.loop-chunk.seat in
-    let won = g.W.Words.means.view c.claim_try.new.self c.claim_try.new.seat in
-    let wins = subst (λ s. TriesClaim s c.loop-chunk.chunk true mid won) i.step.setup_stays c.in-Some.ensures.won in
-    let same = turns.begun_same (g.W.Words.means.setup c.args.table.now) c.args.arbiter.now.first (c.loop-chunk.chunk - c.args.arbiter.now.first) c.loop-chunk.chunk (g.W.Words.means.view c.args.table.now c.args.seat.now) mid won i.vain wins in
-    subst (λ (n : ℕ). n < 4294967295) (sym same) c.requires.few_begun
 
 pub returns-in-Some-clause-begun : goal.returns-in-Some-clause-begun
 returns-in-Some-clause-begun g c =
@@ -104,7 +94,7 @@ returns-in-Some-clause-told_won g c = λ world told.
     let mid = g.W.Words.means.view c.loop-chunk.table c.loop-chunk.seat in let won = g.W.Words.means.view c.claim_try.new.self c.claim_try.new.seat in
     let new = g.W.Words.means.view c.begin.new.self c.begin.new.seat in
     let before = i.told world told in
-    let claimed = c.in-Some.ensures.told_won (with_writer_view world place mid) before.1 in
+    let claimed = c.in-Some.ensures.told (with_writer_view world place mid) before.1 in
     let begun = c.begin.ensures.told (moved (with_writer_view world place mid) other won chunk (Claimed other)) claimed.1 in
     let chunk_is = c.begin.ensures.held.chunk_is ∙ c.in-Some.ensures.chunk in
     let last_is = c.in-Some.ensures.step.place_stays ∙ i.step.place_stays in
@@ -130,7 +120,7 @@ loop-chunk-preserved g c =
       counted = omega arith;
       told = λ world told.
           let before = i.told world told in
-          let after = c.in_default.ensures.told_lost (with_writer_view world place mid) before.1 in (
+          let after = c.in_default.ensures.told (with_writer_view world place mid) before.1 in (
             turns.none_free world first chunk before.0 after.0,
             after.1 ∙ ap (λ w. Some w) (turns.noted_again world place (g.W.Words.means.place c.loop-chunk.seat) mid new i.step.place_stays),
           );

@@ -1,4 +1,5 @@
-use Rattle.std.proofs.Common.{◌≡◌, ℕ, ◌<◌, length, subst, sym, ap, arith}
+use Rattle.std.proofs.Common.{◌≡◌, ℕ, ◌<◌, length, subst, sym, ap, arith, rules}
+use Rattle.std.proofs.lemmas.Grind.{common_steps}
 use Rattle.chunk_plain.specs.declared.tokens.Held.{Held as HeldToken}
 use Rattle.chunk_plain.specs.Payload.{byte_in, sealed_to}
 use Rattle.chunk_plain.specs.Views.{Draft, WriterView}
@@ -8,12 +9,18 @@ use Rattle.chunk_plain.proofs.SeatSteps.{steps_follow}
 use Rattle.claim_arbiter.proofs.Turns.{turn_sealed}
 use Rattle.claim_arbiter.proofs.tests.fill.Goals as goal
 
-pub publish-requires-clause-kept : goal.publish-requires-clause-kept
-publish-requires-clause-kept g c = λ j below.
+pub publish-requires-clause-may : goal.publish-requires-clause-may
+publish-requires-clause-may g c =
     let setup = g.W.Words.means.setup c.args.table.now in let arbiter = c.args.arbiter.now in
     let none = turn_sealed setup arbiter.first arbiter.chunks c.in_ok-held.held.chunk (g.W.Words.means.view c.args.table.now c.args.seat.now) (g.W.Words.means.view c.claim_over.new.table c.claim_over.new.seat) c.in_ok-held.held.position
     c.in_ok-held.ensures.won c.in_ok-held.ensures.begun.position_is in
-    absurd (omega (arith, none))
+    record {
+      held = first_of (search rules, grind (arith, common_steps));
+      size = first_of (search rules, grind (arith, common_steps));
+      order = omega arith;
+      inside = first_of (search rules, grind (arith, common_steps));
+      kept = λ j below. absurd (omega (arith, none));
+    }
 
 pub complete-requires-clause-held : goal.complete-requires-clause-held
 complete-requires-clause-held g c =

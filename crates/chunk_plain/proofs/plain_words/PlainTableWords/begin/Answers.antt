@@ -23,7 +23,7 @@ take_body-body-requires-clause-lent c =
     let inside_w = known.seat_inside self.layout self.words.items self.slots.items self.told.world self.kept place c.requires.seat.inside in
     let world_is = resting.begun_world self.told.world one.told.world two.told.world place chunk words inside_w c.store_first_header.ensures.world c.set_written.ensures.world in
     let many = known.chunks_inside self.layout self.words.items self.slots.items self.told.world self.kept in
-    let inside_c = known.claimed_inside self.layout self.words.items self.slots.items self.told.world self.kept place chunk c.requires.claimed in
+    let inside_c = known.claimed_inside self.layout self.words.items self.slots.items self.told.world self.kept place chunk c.requires.may.claimed in
     let to = Writing place (length (writer self.told.world place).begun) (fresh words) in
     let is : status two.told.world chunk ≡ to = ap (λ (w : World). status w chunk) world_is ∙ get_or-set_same self.told.world.chunks chunk to Unclaimed (omega (arith, many)) in
     ∣ subst IsLent (sym is) tt ∣₁
@@ -31,7 +31,7 @@ take_body-body-requires-clause-lent c =
 pub take_body-body-requires-clause-there : goal.take_body-body-requires-clause-there
 take_body-body-requires-clause-there c = let self = c.args.self.now in
     let same = c.set_written.ensures.slots ∙ c.store_first_header.ensures.slots in
-    subst (λ (l : List Stored). IsSome (stored_at l c.args.claimed.chunk).body) (sym same) (known.claimed_body self.layout self.words.items self.slots.items self.told.world self.kept c.args.seat.now.place c.args.claimed.chunk c.requires.claimed)
+    subst (λ (l : List Stored). IsSome (stored_at l c.args.claimed.chunk).body) (sym same) (known.claimed_body self.layout self.words.items self.slots.items self.told.world self.kept c.args.seat.now.place c.args.claimed.chunk c.requires.may.claimed)
 
 pub returns-clause-held : goal.returns-clause-held
 returns-clause-held c = let self = c.args.self.now in
@@ -39,8 +39,8 @@ returns-clause-held c = let self = c.args.self.now in
     record {
       chunk_is = refl;
       position_is = begun_at self.layout c.args.seat.now.place (length (writer self.told.world c.args.seat.now.place).begun) c.args.id c.position_at-position.result
-          c.requires.id (let few = c.requires.few_begun in omega (arith, few)) c.position_at-position.ensures;
-      whole = known.claimed_size self.layout self.words.items self.slots.items self.told.world self.kept c.args.seat.now.place c.args.claimed.chunk c.take_body-body.result c.requires.claimed
+          c.requires.may.id_is (let few = c.requires.may.few_begun in omega (arith, few)) c.position_at-position.ensures;
+      whole = known.claimed_size self.layout self.words.items self.slots.items self.told.world self.kept c.args.seat.now.place c.args.claimed.chunk c.take_body-body.result c.requires.may.claimed
           (sym (ap (λ (l : List Stored). (stored_at l c.args.claimed.chunk).body) same) ∙ c.take_body-body.ensures.body);
       empty = c.clear.ensures;
     }
@@ -58,7 +58,7 @@ returns-clause-view c =
     record {
       words = words;
       room = subst (λ (l : List Stored). (spot self.layout chunk).payload_size ≤ 8 * length (stored_at l chunk).words) (sym c.store_first_header.ensures.slots)
-          (known.room self.layout self.words.items self.slots.items self.told.world self.kept chunk (known.claimed_inside self.layout self.words.items self.slots.items self.told.world self.kept place chunk c.requires.claimed));
+          (known.room self.layout self.words.items self.slots.items self.told.world self.kept chunk (known.claimed_inside self.layout self.words.items self.slots.items self.told.world self.kept place chunk c.requires.may.claimed));
       view = known.view_now self.layout self.words.items self.slots.items self.told.world self.kept three.told.world place view c.requires.seat.inside (ap (λ (w : World). w.writers) last_is);
     }
 
@@ -78,7 +78,7 @@ returns-clause-step c =
       setup_stays = layout_is;
       seat_stays = resting.seat_stays self.layout _ place view (writer next place) layout_is
           (known.view_now self.layout self.words.items self.slots.items self.told.world self.kept next place view c.requires.seat.inside writers_are)
-          (resting.begins_rest self.layout place (writer self.told.world place) c.requires.seat chunk words c.requires.claimed);
+          (resting.begins_rest self.layout place (writer self.told.world place) c.requires.seat chunk words c.requires.may.claimed);
       place_stays = refl;
       writers_stay = λ other there differs. resting.others_stay self.layout _ self.told.world next place view other.place layout_is writers_are there differs;
       service_stays = λ other serves. resting.serving_stays self.layout _ self.told.world.service next.service layout_is (ap (λ (w : World). w.service) last_is) serves;

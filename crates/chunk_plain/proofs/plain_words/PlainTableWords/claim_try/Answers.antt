@@ -54,8 +54,8 @@ returns-then-claimed-clause-had c =
     known.claim_had self.layout self.words.items self.slots.items self.told.world self.kept c.make_step.new.told.world place c.args.chunk found at c.spot-spot.ensures.spot self.laid c.requires.seat.inside inside_c c.requires.chunk is
     (c.claimed-claimed.ensures.0 c.if-claimed.true) next_is
 
-pub returns-then-claimed-clause-told_lost : goal.returns-then-claimed-clause-told_lost
-returns-then-claimed-clause-told_lost c = λ world e.
+pub returns-then-claimed-clause-told : goal.returns-then-claimed-clause-told
+returns-then-claimed-clause-told c = λ world e.
     let self = c.args.self.now in
     let at = c.spot-spot.result in let found = c.index-found.result.now in let place = c.args.seat.now.place in
     let inside : at.page < length self.words.items = search rules in
@@ -86,8 +86,8 @@ returns-clause-won c =
       view = known.view_now self.layout self.words.items self.slots.items self.told.world self.kept c.make_step-2.new.told.world place (claims (writer self.told.world place) c.args.chunk found true) c.requires.seat.inside (ap (λ (w : World). w.writers) next_is);
     }
 
-pub returns-clause-told_won : goal.returns-clause-told_won
-returns-clause-told_won c = λ world e.
+pub returns-clause-told : goal.returns-clause-told
+returns-clause-told c = λ world e.
     let self = c.args.self.now in
     let at = c.spot-spot.result in let found = c.index-found.result.now in let place = c.args.seat.now.place in
     let inside : at.page < length self.words.items = search rules in

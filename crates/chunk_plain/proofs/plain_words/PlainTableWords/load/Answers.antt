@@ -6,17 +6,16 @@ use Rattle.chunk_plain.specs.Shows.{ShowsPayload}
 use Rattle.chunk_plain.proofs.Looking as looking
 use Rattle.chunk_plain.proofs.plain_words.PlainTableWords.load.Goals as goal
 
-pub returns-clause-found : goal.returns-clause-found
-returns-clause-found c = let self = c.args.self.now in
+pub returns-clause-loads : goal.returns-clause-loads
+returns-clause-loads c = let self = c.args.self.now in
     let words_are = c.words_of.ensures ∙ ap (λ (l : List Stored). (stored_at l c.args.chunk).words) c.deref.ensures.value in
-    looking.load_found self.layout self.words.items self.slots.items self.told.world self.kept c.args.chunk c.unpack.new.into c.requires.chunk (c.unpack.ensures.size ∙ c.requires.size)
-    (λ j below. c.unpack.ensures.bytes j below ∙ ap (λ l. byte_at l j) words_are)
-
-pub returns-clause-read : goal.returns-clause-read
-returns-clause-read c = λ reading. let self = c.args.self.now in
-    let words_are = c.words_of.ensures ∙ ap (λ (l : List Stored). (stored_at l c.args.chunk).words) c.deref.ensures.value in
-    looking.load_read self.layout self.words.items self.slots.items self.told.world self.kept c.args.chunk c.unpack.new.into c.requires.chunk (c.unpack.ensures.size ∙ c.requires.size)
-    (λ j below. c.unpack.ensures.bytes j below ∙ ap (λ l. byte_at l j) words_are) reading c.requires.seat
+    record {
+      size = c.unpack.ensures.size;
+      found = looking.load_found self.layout self.words.items self.slots.items self.told.world self.kept c.args.chunk c.unpack.new.into c.requires.chunk (c.unpack.ensures.size ∙ c.requires.size)
+          (λ j below. c.unpack.ensures.bytes j below ∙ ap (λ l. byte_at l j) words_are);
+      read = λ reading. looking.load_read self.layout self.words.items self.slots.items self.told.world self.kept c.args.chunk c.unpack.new.into c.requires.chunk (c.unpack.ensures.size ∙ c.requires.size)
+          (λ j below. c.unpack.ensures.bytes j below ∙ ap (λ l. byte_at l j) words_are) reading c.requires.seat;
+    }
 
 pub returns-clause-shown : goal.returns-clause-shown
 returns-clause-shown c = λ world e. let self = c.args.self.now in

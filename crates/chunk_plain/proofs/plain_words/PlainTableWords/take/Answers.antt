@@ -29,8 +29,8 @@ set_read-requires-clause-ready c =
     let complete : HasState seen.word.0 (spot self.layout chunk).place Complete = subst (λ (s : Spot). HasState seen.word.0 s.place Complete) c.spot-place.ensures.spot
     (subst (HasState seen.word.0 at.place) (same_true the_type (search rules) _ _ (not_false _ _ c.if-ne.false c.ne.ensures)) c.state.ensures.bits) in
     let inside_w : place < length self.layout.writers = omega arith in
-    let found = ready_found self.layout self.words.items self.slots.items self.told.world self.kept place chunk header c.requires.chunk
-    (subst (λ w. HasState w (spot self.layout chunk).place Complete) c.peek-seen.ensures.word complete) c.peek-seen.ensures.fields (let is = c.if-header-writer.false in omega arith) (c.if-header-id.false ∙ c.requires.id) in
+    let found = ready_found self.layout self.words.items self.slots.items self.told.world self.kept place chunk header c.requires.next.inside
+    (subst (λ w. HasState w (spot self.layout chunk).place Complete) c.peek-seen.ensures.word complete) c.peek-seen.ensures.fields (let is = c.if-header-writer.false in omega arith) (c.if-header-id.false ∙ c.requires.next.id_is) in
     let position = (taken_of self.told.world.service place).count in
     taking.is_ready self.layout self.slots.items self.told.world place chunk position head found refl
 
@@ -42,8 +42,8 @@ take_body-body-requires-clause-lent c =
     let complete : HasState seen.word.0 (spot self.layout chunk).place Complete = subst (λ (s : Spot). HasState seen.word.0 s.place Complete) c.spot-place.ensures.spot
     (subst (HasState seen.word.0 at.place) (same_true the_type (search rules) _ _ (not_false _ _ c.if-ne.false c.ne.ensures)) c.state.ensures.bits) in
     let inside_w : place < length self.layout.writers = omega arith in
-    let found = ready_found self.layout self.words.items self.slots.items self.told.world self.kept place chunk header c.requires.chunk
-    (subst (λ w. HasState w (spot self.layout chunk).place Complete) c.peek-seen.ensures.word complete) c.peek-seen.ensures.fields (let is = c.if-header-writer.false in omega arith) (c.if-header-id.false ∙ c.requires.id) in
+    let found = ready_found self.layout self.words.items self.slots.items self.told.world self.kept place chunk header c.requires.next.inside
+    (subst (λ w. HasState w (spot self.layout chunk).place Complete) c.peek-seen.ensures.word complete) c.peek-seen.ensures.fields (let is = c.if-header-writer.false in omega arith) (c.if-header-id.false ∙ c.requires.next.id_is) in
     let position = (taken_of self.told.world.service place).count in
     let inside_c : chunk < length self.told.world.chunks = let many = known.chunks_inside self.layout self.words.items self.slots.items self.told.world self.kept in omega (arith, many) in
     let reading = taking.is_reading self.layout self.slots.items self.told.world place chunk position head found c.set_read.new.self.told.world seen.word.0 header inside_c c.set_read.ensures.world in
@@ -57,8 +57,8 @@ take_body-body-requires-clause-there c =
     let complete : HasState seen.word.0 (spot self.layout chunk).place Complete = subst (λ (s : Spot). HasState seen.word.0 s.place Complete) c.spot-place.ensures.spot
     (subst (HasState seen.word.0 at.place) (same_true the_type (search rules) _ _ (not_false _ _ c.if-ne.false c.ne.ensures)) c.state.ensures.bits) in
     let inside_w : place < length self.layout.writers = omega arith in
-    let found = ready_found self.layout self.words.items self.slots.items self.told.world self.kept place chunk header c.requires.chunk
-    (subst (λ w. HasState w (spot self.layout chunk).place Complete) c.peek-seen.ensures.word complete) c.peek-seen.ensures.fields (let is = c.if-header-writer.false in omega arith) (c.if-header-id.false ∙ c.requires.id) in
+    let found = ready_found self.layout self.words.items self.slots.items self.told.world self.kept place chunk header c.requires.next.inside
+    (subst (λ w. HasState w (spot self.layout chunk).place Complete) c.peek-seen.ensures.word complete) c.peek-seen.ensures.fields (let is = c.if-header-writer.false in omega arith) (c.if-header-id.false ∙ c.requires.next.id_is) in
     let position = (taken_of self.told.world.service place).count in
     subst (λ (l : List Stored). IsSome (stored_at l chunk).body) (sym c.set_read.ensures.slots) (taking.has_body self.layout self.slots.items self.told.world place chunk position head found)
 
@@ -70,8 +70,8 @@ load_taken-requires-clause-size c =
     let complete : HasState seen.word.0 (spot self.layout chunk).place Complete = subst (λ (s : Spot). HasState seen.word.0 s.place Complete) c.spot-place.ensures.spot
     (subst (HasState seen.word.0 at.place) (same_true the_type (search rules) _ _ (not_false _ _ c.if-ne.false c.ne.ensures)) c.state.ensures.bits) in
     let inside_w : place < length self.layout.writers = omega arith in
-    let found = ready_found self.layout self.words.items self.slots.items self.told.world self.kept place chunk header c.requires.chunk
-    (subst (λ w. HasState w (spot self.layout chunk).place Complete) c.peek-seen.ensures.word complete) c.peek-seen.ensures.fields (let is = c.if-header-writer.false in omega arith) (c.if-header-id.false ∙ c.requires.id) in
+    let found = ready_found self.layout self.words.items self.slots.items self.told.world self.kept place chunk header c.requires.next.inside
+    (subst (λ w. HasState w (spot self.layout chunk).place Complete) c.peek-seen.ensures.word complete) c.peek-seen.ensures.fields (let is = c.if-header-writer.false in omega arith) (c.if-header-id.false ∙ c.requires.next.id_is) in
     let position = (taken_of self.told.world.service place).count in
     let inside_c : chunk < length self.told.world.chunks = let many = known.chunks_inside self.layout self.words.items self.slots.items self.told.world self.kept in omega (arith, many) in
     let reading = taking.is_reading self.layout self.slots.items self.told.world place chunk position head found c.set_read.new.self.told.world seen.word.0 header inside_c c.set_read.ensures.world in
@@ -89,8 +89,8 @@ learn-requires-clause-content c =
     let complete : HasState seen.word.0 (spot self.layout chunk).place Complete = subst (λ (s : Spot). HasState seen.word.0 s.place Complete) c.spot-place.ensures.spot
     (subst (HasState seen.word.0 at.place) (same_true the_type (search rules) _ _ (not_false _ _ c.if-ne.false c.ne.ensures)) c.state.ensures.bits) in
     let inside_w : place < length self.layout.writers = omega arith in
-    let found = ready_found self.layout self.words.items self.slots.items self.told.world self.kept place chunk header c.requires.chunk
-    (subst (λ w. HasState w (spot self.layout chunk).place Complete) c.peek-seen.ensures.word complete) c.peek-seen.ensures.fields (let is = c.if-header-writer.false in omega arith) (c.if-header-id.false ∙ c.requires.id) in
+    let found = ready_found self.layout self.words.items self.slots.items self.told.world self.kept place chunk header c.requires.next.inside
+    (subst (λ w. HasState w (spot self.layout chunk).place Complete) c.peek-seen.ensures.word complete) c.peek-seen.ensures.fields (let is = c.if-header-writer.false in omega arith) (c.if-header-id.false ∙ c.requires.next.id_is) in
     let position = (taken_of self.told.world.service place).count in
     let inside_c : chunk < length self.told.world.chunks = let many = known.chunks_inside self.layout self.words.items self.slots.items self.told.world self.kept in omega (arith, many) in
     let reading = taking.is_reading self.layout self.slots.items self.told.world place chunk position head found c.set_read.new.self.told.world seen.word.0 header inside_c c.set_read.ensures.world in
@@ -120,8 +120,8 @@ returns-clause-taken c =
     let complete : HasState seen.word.0 (spot self.layout chunk).place Complete = subst (λ (s : Spot). HasState seen.word.0 s.place Complete) c.spot-place.ensures.spot
     (subst (HasState seen.word.0 at.place) (same_true the_type (search rules) _ _ (not_false _ _ c.if-ne.false c.ne.ensures)) c.state.ensures.bits) in
     let inside_w : place < length self.layout.writers = omega arith in
-    let found = ready_found self.layout self.words.items self.slots.items self.told.world self.kept place chunk header c.requires.chunk
-    (subst (λ w. HasState w (spot self.layout chunk).place Complete) c.peek-seen.ensures.word complete) c.peek-seen.ensures.fields (let is = c.if-header-writer.false in omega arith) (c.if-header-id.false ∙ c.requires.id) in
+    let found = ready_found self.layout self.words.items self.slots.items self.told.world self.kept place chunk header c.requires.next.inside
+    (subst (λ w. HasState w (spot self.layout chunk).place Complete) c.peek-seen.ensures.word complete) c.peek-seen.ensures.fields (let is = c.if-header-writer.false in omega arith) (c.if-header-id.false ∙ c.requires.next.id_is) in
     let position = (taken_of self.told.world.service place).count in
     let inside_c : chunk < length self.told.world.chunks = let many = known.chunks_inside self.layout self.words.items self.slots.items self.told.world self.kept in omega (arith, many) in
     let reading = taking.is_reading self.layout self.slots.items self.told.world place chunk position head found c.set_read.new.self.told.world seen.word.0 header inside_c c.set_read.ensures.world in
@@ -160,8 +160,8 @@ returns-clause-step c =
     let complete : HasState seen.word.0 (spot self.layout chunk).place Complete = subst (λ (s : Spot). HasState seen.word.0 s.place Complete) c.spot-place.ensures.spot
     (subst (HasState seen.word.0 at.place) (same_true the_type (search rules) _ _ (not_false _ _ c.if-ne.false c.ne.ensures)) c.state.ensures.bits) in
     let inside_w : place < length self.layout.writers = omega arith in
-    let found = ready_found self.layout self.words.items self.slots.items self.told.world self.kept place chunk header c.requires.chunk
-    (subst (λ w. HasState w (spot self.layout chunk).place Complete) c.peek-seen.ensures.word complete) c.peek-seen.ensures.fields (let is = c.if-header-writer.false in omega arith) (c.if-header-id.false ∙ c.requires.id) in
+    let found = ready_found self.layout self.words.items self.slots.items self.told.world self.kept place chunk header c.requires.next.inside
+    (subst (λ w. HasState w (spot self.layout chunk).place Complete) c.peek-seen.ensures.word complete) c.peek-seen.ensures.fields (let is = c.if-header-writer.false in omega arith) (c.if-header-id.false ∙ c.requires.next.id_is) in
     let position = (taken_of self.told.world.service place).count in
     let inside_c : chunk < length self.told.world.chunks = let many = known.chunks_inside self.layout self.words.items self.slots.items self.told.world self.kept in omega (arith, many) in
     let reading = taking.is_reading self.layout self.slots.items self.told.world place chunk position head found c.set_read.new.self.told.world seen.word.0 header inside_c c.set_read.ensures.world in
@@ -199,8 +199,8 @@ returns-clause-told_taken c = λ world e.
     let complete : HasState seen.word.0 (spot self.layout chunk).place Complete = subst (λ (s : Spot). HasState seen.word.0 s.place Complete) c.spot-place.ensures.spot
     (subst (HasState seen.word.0 at.place) (same_true the_type (search rules) _ _ (not_false _ _ c.if-ne.false c.ne.ensures)) c.state.ensures.bits) in
     let inside_w : place < length self.layout.writers = omega arith in
-    let found = ready_found self.layout self.words.items self.slots.items self.told.world self.kept place chunk header c.requires.chunk
-    (subst (λ w. HasState w (spot self.layout chunk).place Complete) c.peek-seen.ensures.word complete) c.peek-seen.ensures.fields (let is = c.if-header-writer.false in omega arith) (c.if-header-id.false ∙ c.requires.id) in
+    let found = ready_found self.layout self.words.items self.slots.items self.told.world self.kept place chunk header c.requires.next.inside
+    (subst (λ w. HasState w (spot self.layout chunk).place Complete) c.peek-seen.ensures.word complete) c.peek-seen.ensures.fields (let is = c.if-header-writer.false in omega arith) (c.if-header-id.false ∙ c.requires.next.id_is) in
     let position = (taken_of self.told.world.service place).count in
     let inside_c : chunk < length self.told.world.chunks = let many = known.chunks_inside self.layout self.words.items self.slots.items self.told.world self.kept in omega (arith, many) in
     let reading = taking.is_reading self.layout self.slots.items self.told.world place chunk position head found c.set_read.new.self.told.world seen.word.0 header inside_c c.set_read.ensures.world in
@@ -237,9 +237,9 @@ returns-then-header-writer-clause-told_other c = λ world e.
     elim c.then-header-writer.branch [
       | then-header-writer-via-else-header-writer+else-header-id+then-ne w ↦ let found = w.state.ensures.only Complete (subst (λ (p : ℕ). HasState seen.word.0 p Complete) (sym at_is) complete) in let t = w.if-ne.true in let n : w.ne.result ≡ false = w.ne.ensures ∙ ap (λ s. not (sameb the_type s Complete)) found in absurd (true≢false (sym t ∙ n))
       | then-header-writer-via-then-header-writer w ↦ w.if-header-writer.true (omega (arith, back, writer))
-      | then-header-writer-via-else-header-writer+then-header-id w ↦ w.if-header-id.true (id_is ∙ sym c.requires.id)
+      | then-header-writer-via-else-header-writer+then-header-id w ↦ w.if-header-id.true (id_is ∙ sym c.requires.next.id_is)
     ] in
     subst (λ (w : World). ((content : Content) → status w chunk ≡ Ready place position content → ⊥) × (Some next ≡ Some (serviced w next.service))) same (
-      other_found self.layout self.words.items self.slots.items self.told.world self.kept place chunk position seen.word.0 header c.requires.chunk c.peek-seen.ensures.word c.peek-seen.ensures.fields other,
+      other_found self.layout self.words.items self.slots.items self.told.world self.kept place chunk position seen.word.0 header c.requires.next.inside c.peek-seen.ensures.word c.peek-seen.ensures.fields other,
       ap (λ (w : World). Some w) (c.note_look.ensures.world ∙ ap (λ service. serviced self.told.world service) (sym (ap (λ (w : World). w.service) c.note_look.ensures.world))),
     )

@@ -1,4 +1,4 @@
-use Rattle.std.proofs.Common.{◌≡◌, ◌∙◌, ◌-◌, ◌≤◌, ◌&&◌, ℕ, vec_len, refl, sym, ap, subst, arith}
+use Rattle.std.proofs.Common.{◌≡◌, ◌∙◌, ◌-◌, ◌≤◌, ◌&&◌, ℕ, vec_len, refl, sym, ap, subst, arith, rules}
 use Rattle.trace_model.specs.Sequences.{is_among}
 use Rattle.commit_body.specs.declared.body.CommitBody.{CommitBody}
 use Rattle.commit_body.specs.Patches.{hole_chunks}
@@ -16,68 +16,61 @@ use Rattle.trace_writer.proofs.claims.QuietRows.{quiet_both}
 use Rattle.trace_writer.proofs.claims.QuietSteps.{quiet_redrafted, quiet_completed}
 use Rattle.trace_writer.proofs.chunk.HeldChunk.complete.Goals as goal
 
-pub publish-requires-clause-held : goal.publish-requires-clause-held
-publish-requires-clause-held g c = c.requires.fit.holds
+pub publish-requires-clause-may : goal.publish-requires-clause-may
+publish-requires-clause-may g c = record {
+  held = c.requires.fit.holds;
+  size = c.requires.fit.size;
+  order = search rules;
+  inside = search rules;
+  kept = keeps_sealed (g.W.Words.means.setup c.args.table.now) (g.W.Words.means.view c.args.table.now c.args.seat.now) c.args.self (c.args.self.count - 1) (vec_len c.args.self.held.body.payload) c.requires.fit;
+}
 
-pub publish-requires-clause-size : goal.publish-requires-clause-size
-publish-requires-clause-size g c = c.requires.fit.size
-
-pub publish-requires-clause-kept : goal.publish-requires-clause-kept
-publish-requires-clause-kept g c =
-    keeps_sealed (g.W.Words.means.setup c.args.table.now) (g.W.Words.means.view c.args.table.now c.args.seat.now) c.args.self (c.args.self.count - 1) (vec_len c.args.self.held.body.payload) c.requires.fit
-
-pub set_header-requires-clause-held : goal.set_header-requires-clause-held
-set_header-requires-clause-held g c =
-    let chunk = c.args.self in
-    let publishes : PublishesBytes chunk.held.chunk chunk.held.position chunk.sealed (vec_len chunk.held.body.payload) chunk.held.body.payload.items
-    (g.W.Words.means.view c.args.table.now c.args.seat.now) (g.W.Words.means.view c.publish.new.self c.publish.new.seat) =
-    subst (λ (n : ℕ). PublishesBytes chunk.held.chunk chunk.held.position chunk.sealed n chunk.held.body.payload.items
-    (g.W.Words.means.view c.args.table.now c.args.seat.now) (g.W.Words.means.view c.publish.new.self c.publish.new.seat)) c.len-size.ensures c.publish.ensures.view in
-    let less = chunk.order in let within = chunk.within in
-    holds_still (g.W.Words.means.setup c.args.table.now) (g.W.Words.means.view c.args.table.now c.args.seat.now) (g.W.Words.means.view c.publish.new.self c.publish.new.seat) chunk (chunk.count - 1) (vec_len chunk.held.body.payload) c.requires.fit
-    (omega (arith, less, within)) (omega arith) publishes c.publish.new.held c.publish.ensures.held
-
-pub set_header-requires-clause-reads : goal.set_header-requires-clause-reads
-set_header-requires-clause-reads g c =
-    let chunk = c.args.self in
-    let publishes : PublishesBytes chunk.held.chunk chunk.held.position chunk.sealed (vec_len chunk.held.body.payload) chunk.held.body.payload.items
-    (g.W.Words.means.view c.args.table.now c.args.seat.now) (g.W.Words.means.view c.publish.new.self c.publish.new.seat) =
-    subst (λ (n : ℕ). PublishesBytes chunk.held.chunk chunk.held.position chunk.sealed n chunk.held.body.payload.items
-    (g.W.Words.means.view c.args.table.now c.args.seat.now) (g.W.Words.means.view c.publish.new.self c.publish.new.seat)) c.len-size.ensures c.publish.ensures.view in
-    let mid = g.W.Words.means.view c.publish.new.self c.publish.new.seat in let less = chunk.order in let within = chunk.within in
-    let reads = reads_so (g.W.Words.means.setup c.args.table.now) (g.W.Words.means.view c.args.table.now c.args.seat.now) mid chunk (chunk.count - 1) (vec_len chunk.held.body.payload) c.requires.fit
-    (omega (arith, less, within)) (omega arith) publishes chunk.count refl in
-    subst (λ (h : Held). HasFragments (published mid h.position) (ends_by mid h.position chunk.count)) (sym c.publish.ensures.held) reads.0
-
-pub set_header-requires-clause-inside : goal.set_header-requires-clause-inside
-set_header-requires-clause-inside g c =
-    let chunk = c.args.self in
-    let publishes : PublishesBytes chunk.held.chunk chunk.held.position chunk.sealed (vec_len chunk.held.body.payload) chunk.held.body.payload.items
-    (g.W.Words.means.view c.args.table.now c.args.seat.now) (g.W.Words.means.view c.publish.new.self c.publish.new.seat) =
-    subst (λ (n : ℕ). PublishesBytes chunk.held.chunk chunk.held.position chunk.sealed n chunk.held.body.payload.items
-    (g.W.Words.means.view c.args.table.now c.args.seat.now) (g.W.Words.means.view c.publish.new.self c.publish.new.seat)) c.len-size.ensures c.publish.ensures.view in
-    let mid = g.W.Words.means.view c.publish.new.self c.publish.new.seat in let less = chunk.order in let within = chunk.within in
-    let fit = c.requires.fit in
-    let reads = (reads_so (g.W.Words.means.setup c.args.table.now) (g.W.Words.means.view c.args.table.now c.args.seat.now) mid chunk (chunk.count - 1) (vec_len chunk.held.body.payload) fit
-    (omega (arith, less, within)) (omega arith) publishes chunk.count refl).1 in
-    let inside = fit.inside in let size = fit.size in
-    subst (λ (s : Setup). sealed_to (ends_by mid c.publish.new.held.position chunk.count) ≤ (spot s c.publish.new.held.chunk).payload_size) (sym c.publish.ensures.step.setup_stays)
-    (subst (λ (h : Held). sealed_to (ends_by mid h.position chunk.count) ≤ (spot (g.W.Words.means.setup c.args.table.now) h.chunk).payload_size) (sym c.publish.ensures.held)
-    (omega (arith, reads, inside, size)))
-
-pub set_header-requires-clause-follows : goal.set_header-requires-clause-follows
-set_header-requires-clause-follows g c =
-    let chunk = c.args.self in
-    let publishes : PublishesBytes chunk.held.chunk chunk.held.position chunk.sealed (vec_len chunk.held.body.payload) chunk.held.body.payload.items
-    (g.W.Words.means.view c.args.table.now c.args.seat.now) (g.W.Words.means.view c.publish.new.self c.publish.new.seat) =
-    subst (λ (n : ℕ). PublishesBytes chunk.held.chunk chunk.held.position chunk.sealed n chunk.held.body.payload.items
-    (g.W.Words.means.view c.args.table.now c.args.seat.now) (g.W.Words.means.view c.publish.new.self c.publish.new.seat)) c.len-size.ensures c.publish.ensures.view in
-    let view = g.W.Words.means.view c.args.table.now c.args.seat.now in let mid = g.W.Words.means.view c.publish.new.self c.publish.new.seat in
-    let less = chunk.order in let within = chunk.within in
-    heads_last view mid chunk c.publish.new.held c.flags_of-flags.result c.args.runs_on c.is_awaiting.result
-    (head_stays (g.W.Words.means.setup c.args.table.now) view mid chunk (chunk.count - 1) (vec_len chunk.held.body.payload) c.requires.fit
-    (omega (arith, less, within)) (omega arith) publishes)
-    c.publish.ensures.held c.requires.head c.flags_of-flags.ensures.value
+pub set_header-requires-clause-may : goal.set_header-requires-clause-may
+set_header-requires-clause-may g c = record {
+  held = let chunk = c.args.self in
+      let publishes : PublishesBytes chunk.held.chunk chunk.held.position chunk.sealed (vec_len chunk.held.body.payload) chunk.held.body.payload.items
+      (g.W.Words.means.view c.args.table.now c.args.seat.now) (g.W.Words.means.view c.publish.new.self c.publish.new.seat) =
+      subst (λ (n : ℕ). PublishesBytes chunk.held.chunk chunk.held.position chunk.sealed n chunk.held.body.payload.items
+      (g.W.Words.means.view c.args.table.now c.args.seat.now) (g.W.Words.means.view c.publish.new.self c.publish.new.seat)) c.len-size.ensures c.publish.ensures.view in
+      let less = chunk.order in let within = chunk.within in
+      holds_still (g.W.Words.means.setup c.args.table.now) (g.W.Words.means.view c.args.table.now c.args.seat.now) (g.W.Words.means.view c.publish.new.self c.publish.new.seat) chunk (chunk.count - 1) (vec_len chunk.held.body.payload) c.requires.fit
+      (omega (arith, less, within)) (omega arith) publishes c.publish.new.held c.publish.ensures.held;
+  count_fits = search rules;
+  flags_fit = search rules;
+  follows = let chunk = c.args.self in
+      let publishes : PublishesBytes chunk.held.chunk chunk.held.position chunk.sealed (vec_len chunk.held.body.payload) chunk.held.body.payload.items
+      (g.W.Words.means.view c.args.table.now c.args.seat.now) (g.W.Words.means.view c.publish.new.self c.publish.new.seat) =
+      subst (λ (n : ℕ). PublishesBytes chunk.held.chunk chunk.held.position chunk.sealed n chunk.held.body.payload.items
+      (g.W.Words.means.view c.args.table.now c.args.seat.now) (g.W.Words.means.view c.publish.new.self c.publish.new.seat)) c.len-size.ensures c.publish.ensures.view in
+      let view = g.W.Words.means.view c.args.table.now c.args.seat.now in let mid = g.W.Words.means.view c.publish.new.self c.publish.new.seat in
+      let less = chunk.order in let within = chunk.within in
+      heads_last view mid chunk c.publish.new.held c.flags_of-flags.result c.args.runs_on c.is_awaiting.result
+      (head_stays (g.W.Words.means.setup c.args.table.now) view mid chunk (chunk.count - 1) (vec_len chunk.held.body.payload) c.requires.fit
+      (omega (arith, less, within)) (omega arith) publishes)
+      c.publish.ensures.held c.requires.head c.flags_of-flags.ensures.value;
+  reads = let chunk = c.args.self in
+      let publishes : PublishesBytes chunk.held.chunk chunk.held.position chunk.sealed (vec_len chunk.held.body.payload) chunk.held.body.payload.items
+      (g.W.Words.means.view c.args.table.now c.args.seat.now) (g.W.Words.means.view c.publish.new.self c.publish.new.seat) =
+      subst (λ (n : ℕ). PublishesBytes chunk.held.chunk chunk.held.position chunk.sealed n chunk.held.body.payload.items
+      (g.W.Words.means.view c.args.table.now c.args.seat.now) (g.W.Words.means.view c.publish.new.self c.publish.new.seat)) c.len-size.ensures c.publish.ensures.view in
+      let mid = g.W.Words.means.view c.publish.new.self c.publish.new.seat in let less = chunk.order in let within = chunk.within in
+      let reads = reads_so (g.W.Words.means.setup c.args.table.now) (g.W.Words.means.view c.args.table.now c.args.seat.now) mid chunk (chunk.count - 1) (vec_len chunk.held.body.payload) c.requires.fit
+      (omega (arith, less, within)) (omega arith) publishes chunk.count refl in
+      subst (λ (h : Held). HasFragments (published mid h.position) (ends_by mid h.position chunk.count)) (sym c.publish.ensures.held) reads.0;
+  inside = let chunk = c.args.self in
+      let publishes : PublishesBytes chunk.held.chunk chunk.held.position chunk.sealed (vec_len chunk.held.body.payload) chunk.held.body.payload.items
+      (g.W.Words.means.view c.args.table.now c.args.seat.now) (g.W.Words.means.view c.publish.new.self c.publish.new.seat) =
+      subst (λ (n : ℕ). PublishesBytes chunk.held.chunk chunk.held.position chunk.sealed n chunk.held.body.payload.items
+      (g.W.Words.means.view c.args.table.now c.args.seat.now) (g.W.Words.means.view c.publish.new.self c.publish.new.seat)) c.len-size.ensures c.publish.ensures.view in
+      let mid = g.W.Words.means.view c.publish.new.self c.publish.new.seat in let less = chunk.order in let within = chunk.within in
+      let fit = c.requires.fit in
+      let reads = (reads_so (g.W.Words.means.setup c.args.table.now) (g.W.Words.means.view c.args.table.now c.args.seat.now) mid chunk (chunk.count - 1) (vec_len chunk.held.body.payload) fit
+      (omega (arith, less, within)) (omega arith) publishes chunk.count refl).1 in
+      let inside = fit.inside in let size = fit.size in
+      subst (λ (s : Setup). sealed_to (ends_by mid c.publish.new.held.position chunk.count) ≤ (spot s c.publish.new.held.chunk).payload_size) (sym c.publish.ensures.step.setup_stays)
+      (subst (λ (h : Held). sealed_to (ends_by mid h.position chunk.count) ≤ (spot (g.W.Words.means.setup c.args.table.now) h.chunk).payload_size) (sym c.publish.ensures.held)
+      (omega (arith, reads, inside, size)));
+}
 
 pub complete-requires-clause-held : goal.complete-requires-clause-held
 complete-requires-clause-held g c =

@@ -10,49 +10,42 @@ use Rattle.trace_writer.proofs.claims.QuietRows.{quiet_both}
 use Rattle.trace_writer.proofs.claims.QuietSteps.{quiet_redrafted}
 use Rattle.trace_writer.proofs.chunk.HeldChunk.start_fragment.Goals as goal
 
-pub publish-requires-clause-held : goal.publish-requires-clause-held
-publish-requires-clause-held g c = c.requires.fit.holds
+pub publish-requires-clause-may : goal.publish-requires-clause-may
+publish-requires-clause-may g c = record {
+  held = c.requires.fit.holds;
+  size = c.requires.fit.size;
+  order = search rules;
+  inside = search rules;
+  kept = let chunk = c.args.self in
+      keeps_sealed (g.W.Words.means.setup c.args.table.now) (g.W.Words.means.view c.args.table.now c.args.seat.now) chunk chunk.count chunk.at c.requires.fit;
+}
 
-pub publish-requires-clause-size : goal.publish-requires-clause-size
-publish-requires-clause-size g c = c.requires.fit.size
-
-pub publish-requires-clause-kept : goal.publish-requires-clause-kept
-publish-requires-clause-kept g c =
-    let chunk = c.args.self in
-    keeps_sealed (g.W.Words.means.setup c.args.table.now) (g.W.Words.means.view c.args.table.now c.args.seat.now) chunk chunk.count chunk.at c.requires.fit
-
-pub set_header-requires-clause-held : goal.set_header-requires-clause-held
-set_header-requires-clause-held g c =
-    let chunk = c.args.self in
-    holds_still (g.W.Words.means.setup c.args.table.now) (g.W.Words.means.view c.args.table.now c.args.seat.now) (g.W.Words.means.view c.publish.new.self c.publish.new.seat) chunk chunk.count chunk.at c.requires.fit
-    chunk.order chunk.within c.publish.ensures.view c.publish.new.held c.publish.ensures.held
-
-pub set_header-requires-clause-follows : goal.set_header-requires-clause-follows
-set_header-requires-clause-follows g c =
-    let chunk = c.args.self in let mid = g.W.Words.means.view c.publish.new.self c.publish.new.seat in
-    let head = head_stays (g.W.Words.means.setup c.args.table.now) (g.W.Words.means.view c.args.table.now c.args.seat.now) mid chunk chunk.count chunk.at c.requires.fit
-    chunk.order chunk.within c.publish.ensures.view in
-    subst (λ (n : ℕ). MayFollow (head_at mid c.publish.new.held.position) (record { count = chunk.count + 1; flags = n })) (sym c.flags_of.ensures.value)
-    (subst (λ (h : Held). MayFollow (head_at mid h.position) (held_head (chunk.count + 1) chunk.continues)) (sym c.publish.ensures.held)
-    (subst (λ (h : Head). MayFollow h (held_head (chunk.count + 1) chunk.continues)) (sym head) c.requires.head))
-
-pub set_header-requires-clause-reads : goal.set_header-requires-clause-reads
-set_header-requires-clause-reads g c =
-    let chunk = c.args.self in let mid = g.W.Words.means.view c.publish.new.self c.publish.new.seat in
-    let reads = reads_so (g.W.Words.means.setup c.args.table.now) (g.W.Words.means.view c.args.table.now c.args.seat.now) mid chunk chunk.count chunk.at c.requires.fit
-    chunk.order chunk.within c.publish.ensures.view (chunk.count + 1) (omega arith) in
-    subst (λ (h : Held). HasFragments (published mid h.position) (ends_by mid h.position (chunk.count + 1))) (sym c.publish.ensures.held) reads.0
-
-pub set_header-requires-clause-inside : goal.set_header-requires-clause-inside
-set_header-requires-clause-inside g c =
-    let chunk = c.args.self in let mid = g.W.Words.means.view c.publish.new.self c.publish.new.seat in
-    let fit = c.requires.fit in
-    let reads = (reads_so (g.W.Words.means.setup c.args.table.now) (g.W.Words.means.view c.args.table.now c.args.seat.now) mid chunk chunk.count chunk.at fit
-    chunk.order chunk.within c.publish.ensures.view (chunk.count + 1) (omega arith)).1 in
-    let inside = fit.inside in let within = chunk.within in let size = fit.size in
-    subst (λ (s : Setup). sealed_to (ends_by mid c.publish.new.held.position (chunk.count + 1)) ≤ (spot s c.publish.new.held.chunk).payload_size) (sym c.publish.ensures.step.setup_stays)
-    (subst (λ (h : Held). sealed_to (ends_by mid h.position (chunk.count + 1)) ≤ (spot (g.W.Words.means.setup c.args.table.now) h.chunk).payload_size) (sym c.publish.ensures.held)
-    (omega (arith, reads, inside, within, size)))
+pub set_header-requires-clause-may : goal.set_header-requires-clause-may
+set_header-requires-clause-may g c = record {
+  held = let chunk = c.args.self in
+      holds_still (g.W.Words.means.setup c.args.table.now) (g.W.Words.means.view c.args.table.now c.args.seat.now) (g.W.Words.means.view c.publish.new.self c.publish.new.seat) chunk chunk.count chunk.at c.requires.fit
+      chunk.order chunk.within c.publish.ensures.view c.publish.new.held c.publish.ensures.held;
+  count_fits = search rules;
+  flags_fit = search rules;
+  follows = let chunk = c.args.self in let mid = g.W.Words.means.view c.publish.new.self c.publish.new.seat in
+      let head = head_stays (g.W.Words.means.setup c.args.table.now) (g.W.Words.means.view c.args.table.now c.args.seat.now) mid chunk chunk.count chunk.at c.requires.fit
+      chunk.order chunk.within c.publish.ensures.view in
+      subst (λ (n : ℕ). MayFollow (head_at mid c.publish.new.held.position) (record { count = chunk.count + 1; flags = n })) (sym c.flags_of.ensures.value)
+      (subst (λ (h : Held). MayFollow (head_at mid h.position) (held_head (chunk.count + 1) chunk.continues)) (sym c.publish.ensures.held)
+      (subst (λ (h : Head). MayFollow h (held_head (chunk.count + 1) chunk.continues)) (sym head) c.requires.head));
+  reads = let chunk = c.args.self in let mid = g.W.Words.means.view c.publish.new.self c.publish.new.seat in
+      let reads = reads_so (g.W.Words.means.setup c.args.table.now) (g.W.Words.means.view c.args.table.now c.args.seat.now) mid chunk chunk.count chunk.at c.requires.fit
+      chunk.order chunk.within c.publish.ensures.view (chunk.count + 1) (omega arith) in
+      subst (λ (h : Held). HasFragments (published mid h.position) (ends_by mid h.position (chunk.count + 1))) (sym c.publish.ensures.held) reads.0;
+  inside = let chunk = c.args.self in let mid = g.W.Words.means.view c.publish.new.self c.publish.new.seat in
+      let fit = c.requires.fit in
+      let reads = (reads_so (g.W.Words.means.setup c.args.table.now) (g.W.Words.means.view c.args.table.now c.args.seat.now) mid chunk chunk.count chunk.at fit
+      chunk.order chunk.within c.publish.ensures.view (chunk.count + 1) (omega arith)).1 in
+      let inside = fit.inside in let within = chunk.within in let size = fit.size in
+      subst (λ (s : Setup). sealed_to (ends_by mid c.publish.new.held.position (chunk.count + 1)) ≤ (spot s c.publish.new.held.chunk).payload_size) (sym c.publish.ensures.step.setup_stays)
+      (subst (λ (h : Held). sealed_to (ends_by mid h.position (chunk.count + 1)) ≤ (spot (g.W.Words.means.setup c.args.table.now) h.chunk).payload_size) (sym c.publish.ensures.held)
+      (omega (arith, reads, inside, within, size)));
+}
 
 pub returns-clause-view : goal.returns-clause-view
 returns-clause-view g c =

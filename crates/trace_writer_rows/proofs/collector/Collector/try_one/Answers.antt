@@ -1,4 +1,5 @@
-use Rattle.std.proofs.Common.{◌∙◌, ℕ, sym, ap}
+use Rattle.std.proofs.Common.{◌∙◌, ℕ, sym, ap, rules, arith}
+use Rattle.std.proofs.lemmas.Grind.{common_steps}
 use Rattle.page_geometry.specs.Header.{packed}
 use Rattle.chunk_plain.specs.Words.{taken_content}
 use Rattle.chunk_plain.proofs.Holding.{takes_reads}
@@ -23,7 +24,12 @@ returns-clause-leaves c =
           (second.0, second.1 ∙ first.1);
     }
 
-pub take-requires-clause-id : goal.take-requires-clause-id
-take-requires-clause-id c =
-    let needs = c.requires.needs in
-    c.id_of.ensures ∙ ap (id_of 4294967295) needs.5 ∙ ap (λ (f : ℕ). id_of f (taken_of c.args.table.now.told.world.service 0).count) (sym needs.6)
+pub take-requires-clause-next : goal.take-requires-clause-next
+take-requires-clause-next c = record {
+  inside = first_of (search rules, grind (arith, common_steps));
+  least = first_of (search rules, grind (arith, common_steps));
+  most = first_of (search rules, grind (arith, common_steps));
+  id_is = let needs = c.requires.needs in
+      c.id_of.ensures ∙ ap (id_of 4294967295) needs.5 ∙ ap (λ (f : ℕ). id_of f (taken_of c.args.table.now.told.world.service 0).count) (sym needs.6);
+}
+

@@ -1,5 +1,5 @@
 -- What a call on a table asks of its seat's view, and what it answers, where that is more than one thing.
-use Rattle.std.specs.Prelude.{◌≡◌, ℕ, ◌-◌, ◌<◌, ◌≤◌, List, length, vec_len}
+use Rattle.std.specs.Prelude.{◌≡◌, ℕ, ◌+◌, ◌-◌, ◌*◌, ◌<◌, ◌≤◌, List, length, vec_len}
 use Rattle.trace_base.specs.declared.limits.TheConstants.{MAX_FRAGMENTS}
 use Rattle.page_geometry.specs.declared.chunk_header.TheConstants.{MAX_FLAGS}
 use Rattle.chunk_plain.specs.declared.tokens.TheConstants.{POSITION_LIMIT}
@@ -34,6 +34,15 @@ pub record MayPublishRange (setup : Setup) (view : WriterView) (token : HeldToke
   pub order : from ≤ to
   pub inside : to ≤ (spot setup token.chunk).payload_size
   pub kept : KeepsSealed view token.position token.body.payload.items
+
+-- Payload words of a held chunk, from one place on up to another one, may be stored from this copy, which has the finished fragments as they
+-- were published.
+pub record MayStoreWords (setup : Setup) (view : WriterView) (chunk position first end : ℕ) (copy : List ℕ) : Type 0 where
+  pub held : IsHolding view chunk position
+  pub size : length copy ≡ (spot setup chunk).payload_size
+  pub order : first ≤ end
+  pub inside : 8 * end < length copy + 8
+  pub kept : KeepsSealed view position copy
 
 -- the service asks for the next chunk of the writer with this number, by its id
 pub record AsksForNext (setup : Setup) (view : ServiceView) (chunk writer id : ℕ) : Type 0 where
