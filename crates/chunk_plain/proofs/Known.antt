@@ -258,10 +258,7 @@ module _ (setup : Setup) (words : List ℕ) (slots : List Stored) (world : World
   claim_had next place chunk found at at_is laid inside_w inside_c of is claimed next_is =
       ∥∥₁_map (claim_vain next place chunk found at at_is laid inside_w inside_c of is claimed next_is) (λ k. record {
         world = next;
-        writers = k.writers;
-        chunks = k.shown.chunk_count;
-        owned = k.owned;
-        own = k.own;
+        may_be = record { writers = k.writers; chunks = k.shown.chunk_count; owned = k.owned; own = k.own };
         view_is = refl;
         had = λ free. claim_taken chunk found at at_is inside_c is claimed (ap (λ (w : World). status w chunk) (sym next_is) ∙ free);
       })

@@ -81,12 +81,9 @@ module _ (setup : Setup) (words : List ℕ) (slots : List Stored) (world : World
   was_seen chunk word inside word_is =
       ∥∥₁_map kept (λ k. record {
         world = world;
-        writers = k.writers;
-        chunks = k.shown.chunk_count;
-        owned = k.owned;
-        own = k.own;
+        may_be = record { writers = k.writers; chunks = k.shown.chunk_count; owned = k.owned; own = k.own };
         view_is = refl;
-        state = subst (λ w. HasState w (spot setup chunk).place (state_of (status world chunk))) (sym word_is) (k.shown.page chunk inside).state;
+        shows = subst (λ w. ShowsPage setup world (spot setup chunk) w (status world chunk)) (sym word_is) (k.shown.page chunk inside);
       })
 
   pub look_shown : (chunk word header : ℕ) → chunk < length setup.spots → word ≡ page_word setup words chunk → header ≡ header_word setup words chunk

@@ -35,8 +35,8 @@ pub record MayPublishRange (setup : Setup) (view : WriterView) (token : HeldToke
   pub inside : to ≤ (spot setup token.chunk).payload_size
   pub kept : KeepsSealed view token.position token.body.payload.items
 
--- Payload words of a held chunk, from one place on up to another one, may be stored from this copy, which has the finished fragments as they
--- were published.
+-- Payload words of a held chunk, from one place on up to another one, may be stored from this copy, which has the finished fragments as
+-- they were published.
 pub record MayStoreWords (setup : Setup) (view : WriterView) (chunk position first end : ℕ) (copy : List ℕ) : Type 0 where
   pub held : IsHolding view chunk position
   pub size : length copy ≡ (spot setup chunk).payload_size
@@ -51,8 +51,8 @@ pub record AsksForNext (setup : Setup) (view : ServiceView) (chunk writer id : �
   pub most : writer ≤ length setup.writers
   pub id_is : id ≡ id_at setup (writer - 1) (taken_of view (writer - 1)).count
 
--- The payload of the chunk was loaded over as many bytes: it begins with what looks found there, and where the service reads the chunk it is
--- that of a content in the view.
+-- The payload of the chunk was loaded over as many bytes: it begins with what looks found there, and where the service reads the chunk it
+-- is that of a content in the view.
 pub record LoadsPayload (view : ServiceView) (chunk : ℕ) (old new : List ℕ) : Type 0 where
   pub size : length new ≡ length old
   pub found : ShowsFound view chunk new

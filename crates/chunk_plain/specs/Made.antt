@@ -34,10 +34,10 @@ pub record HasSeats (count : ℕ) (seats : List PlainWriter) : Type 0 where
   pub count_is : length seats ≡ count
   pub place_is : (k : ℕ) → k < count → (slice_index_or seats k (record { place = 0 })).place ≡ k
 
--- A table of one thread as it is made for these producers and writers, with the seats of the writers and the service's: it tells the world in
--- which nobody has done anything, and all words are 0.
-pub record IsNewPlain {T S : Type 0} (means : Meaning T PlainWriter S) (producers : List ProducerSpec) (writers : List WriterSpec) (table : T) (words : List ℕ)
-    (slots : List Stored) (given : List PlainWriter) (server : S) : Type 0 where
+-- A table of one thread as it is made for these producers and writers, with the seats of the writers and the service's: it tells the world
+-- in which nobody has done anything, and all words are 0.
+pub record IsNewPlain {T S : Type 0} (means : Meaning T PlainWriter S) (producers : List ProducerSpec) (writers : List WriterSpec)
+    (table : T) (words : List ℕ) (slots : List Stored) (given : List PlainWriter) (server : S) : Type 0 where
   pub setup : means.setup table ≡ setup_of producers writers
   pub told : means.told table ≡ Some (first_world (setup_of producers writers))
   pub zero : AllZero words slots

@@ -6,7 +6,7 @@ use Rattle.chunk_plain.specs.declared.step.Step.{Step}
 use Rattle.chunk_plain.specs.declared.step.Step.TheVariants.{Claim, Stamp, Begin, SetHeader, Publish, Complete, Look, Take, Learn, Release, Call, Event, Commit}
 use Rattle.chunk_plain.specs.Setup.{Setup, from_of}
 use Rattle.chunk_plain.specs.Payload.{byte_at, first_bytes, sealed_to}
-use Rattle.chunk_plain.specs.Views.{Head, Content, Found, WriterView, newcomer, newcomer_service, none_taken, taken_of}
+use Rattle.chunk_plain.specs.Views.{Found, WriterView, newcomer, newcomer_service, none_taken, taken_of}
 use Rattle.chunk_plain.specs.World.{World, Status, Unclaimed, Claimed, Stamped, Writing, Ready, Reading, status, writer}
 use Rattle.chunk_plain.specs.Steps.{claims, stamps, begins, redrafts, with_head, with_words, completes, notes_call, looks_at, takes_in, learns, lets_go, notes, notes_commit, moved, served, with_writer_view, serviced}
 use Rattle.chunk_plain.specs.Owned.{IsOwned}

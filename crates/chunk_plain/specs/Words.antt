@@ -27,15 +27,19 @@ use Rattle.chunk_plain.specs.Steps.{claims, stamps, begins, redrafts, looks_at, 
 use Rattle.chunk_plain.specs.World.{World, Unclaimed, status, writer}
 use Rattle.chunk_plain.specs.Owned.{times, IsOwned}
 use Rattle.chunk_plain.specs.Drafts.{MayFollow, IsFound, StillHas, head_of, draft_at, head_at, published}
-use Rattle.chunk_plain.specs.Shows.{state_of, content_of}
+use Rattle.chunk_plain.specs.Shows.{ShowsPage, content_of}
 
 -- Between two calls
+
+-- each claim that a writer tried is of a chunk of its own producer
+abbrev pub AsksItsOwn : Setup → (place : ℕ) → WriterView → Type 0
+AsksItsOwn setup place view = (i : ℕ) (ask : Ask) → At view.asked i ask → IsChunkOf setup (producer_of setup place) ask.chunk
 
 -- a writer's seat: no header of it is stored in a chunk that it hasn't begun, and it has to do with its own producer's chunks alone
 pub record IsAtRest (setup : Setup) (place : ℕ) (view : WriterView) : Type 0 where
   pub inside : place < length setup.writers
   pub stamped : view.stamped ≡ None
-  pub asked : (i : ℕ) (ask : Ask) → At view.asked i ask → IsChunkOf setup (producer_of setup place) ask.chunk
+  pub asked : AsksItsOwn setup place view
   pub claimed : (chunk : ℕ) → 0 < times chunk view.claimed → IsChunkOf setup (producer_of setup place) chunk
   pub begun : (position : ℕ) (entry : BegunChunk) → At view.begun position entry
       → IsChunkOf setup (producer_of setup place) (chunk_of entry)
@@ -83,19 +87,22 @@ pub record TriesClaim (setup : Setup) (chunk : ℕ) (won : Bool) (old new : Writ
   pub fresh : won ≡ true → times chunk old.claimed ≡ 0
   pub view : new ≡ claims old chunk found won
 
--- each claim of a writer is of a chunk of its own producer
+-- so are those of all writers
 abbrev pub AskTheirOwn : Setup → List WriterView → Type 0
-AskTheirOwn setup writers = (place i : ℕ) (ask : Ask) → At (slice_index_or writers place newcomer).asked i ask
-    → IsChunkOf setup (producer_of setup place) ask.chunk
+AskTheirOwn setup writers = (place : ℕ) → AsksItsOwn setup place (slice_index_or writers place newcomer)
 
--- In some world of the table, in which each chunk is owned by exactly one and each writer claimed its own producer's alone, the writer at
--- this place knows this and somebody has the chunk.
-pub record WasHad (setup : Setup) (place chunk : ℕ) (view : WriterView) : Type 0 where
-  pub world : World
+-- a world that the table may have: with its writers and chunks, where each chunk is owned by exactly one and each writer claimed chunks of
+-- its own producer alone
+pub record MayBe (setup : Setup) (world : World) : Type 0 where
   pub writers : length world.writers ≡ length setup.writers
   pub chunks : length world.chunks ≡ length setup.spots
   pub owned : IsOwned world
   pub own : AskTheirOwn setup world.writers
+
+-- In some world that the table may have, the writer at this place knows this and somebody has the chunk.
+pub record WasHad (setup : Setup) (place chunk : ℕ) (view : WriterView) : Type 0 where
+  pub world : World
+  pub may_be : MayBe setup world
   pub view_is : writer world place ≡ view
   pub had : status world chunk ≡ Unclaimed → ⊥
 
@@ -165,19 +172,15 @@ pub record FindsWritten (setup : Setup) (chunk word : ℕ) (header : ChunkHeader
   pub some : HasState word (spot setup chunk).place BeingWritten → (one : Found) × (found ≡ Some one) × IsOfHeader setup header view one
   pub none : (HasState word (spot setup chunk).place BeingWritten → ⊥) → found ≡ None
 
--- In some world of the table, in which each chunk is owned by exactly one and each writer claimed its own producer's alone, the service
--- knows this and the page word has the chunk in the state that it has there.
+-- In some world that the table may have, the service knows this and the page word shows the chunk.
 pub record WasSeen (setup : Setup) (chunk word : ℕ) (view : ServiceView) : Type 0 where
   pub world : World
-  pub writers : length world.writers ≡ length setup.writers
-  pub chunks : length world.chunks ≡ length setup.spots
-  pub owned : IsOwned world
-  pub own : AskTheirOwn setup world.writers
+  pub may_be : MayBe setup world
   pub view_is : world.service ≡ view
-  pub state : HasState word (spot setup chunk).place (state_of (status world chunk))
+  pub shows : ShowsPage setup world (spot setup chunk) word (status world chunk)
 
--- The chunk was looked at: page word, header and what stood in it join the view. The page word is one that the chunk had while the service
--- knew what it knew before.
+-- The chunk was looked at: page word, header and what stood in it join the view. In some world with the view before, the page word shows
+-- the chunk.
 pub record LooksAt (setup : Setup) (chunk word : ℕ) (header : ChunkHeader) (old new : ServiceView) : Type 0 where
   pub seen : ∥ WasSeen setup chunk word old ∥₁
   pub found : Option Found

@@ -175,8 +175,8 @@ pub record MayHear (world : World) (place number : ℕ) : Type 0 where
   pub rises : (writer world place).letters.known ≤ number
   pub made : number ≤ asked_in world.service.letters
 
--- The writer knows of the request and hasn't answered it or a later one. It has completed as many chunks, and they are the first ones that it
--- began: none of these is held.
+-- The writer knows of the request and hasn't answered it or a later one. It has completed as many chunks, and they are the first ones that
+-- it began: none of these is held.
 pub record MayAnswer (view : WriterView) (flush chunks : ℕ) : Type 0 where
   pub known : flush ≡ view.letters.known
   pub newer : last_flush view.letters.answers < flush

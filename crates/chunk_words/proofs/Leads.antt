@@ -47,10 +47,7 @@ pub was_had : (setup : Setup) (front : List ℕ) (slots : List Stored) (world : 
     → IsKept setup front slots world → writer world place ≡ view → (status world chunk ≡ Unclaimed → ⊥) → WasHad setup place chunk view
 was_had setup front slots world place chunk view kept mine had = record {
   world = world;
-  writers = kept.writers;
-  chunks = kept.shown.chunk_count;
-  owned = kept.owned;
-  own = kept.own;
+  may_be = record { writers = kept.writers; chunks = kept.shown.chunk_count; owned = kept.owned; own = kept.own };
   view_is = mine;
   had = had;
 }

@@ -13,7 +13,7 @@ use Rattle.chunk_plain.specs.World.{World, Status, Unclaimed, Ready, Reading, st
 use Rattle.chunk_plain.specs.Steps.{looks_at, takes_in, served, serviced}
 use Rattle.chunk_plain.specs.Drafts.{head_of}
 use Rattle.chunk_plain.specs.Stored.{Stored, stored_at}
-use Rattle.chunk_plain.specs.Shows.{state_of, ShowsHeader, ShowsSlot, IsHeader, page_word, header_word}
+use Rattle.chunk_plain.specs.Shows.{state_of, ShowsPage, ShowsHeader, ShowsSlot, IsHeader, page_word, header_word}
 use Rattle.chunk_plain.specs.Words.{FindsWritten}
 use Rattle.chunk_plain.specs.Plain.{read_as, IsKept}
 use Rattle.chunk_plain.proofs.Owned.{looks_owned}
@@ -28,7 +28,7 @@ use Rattle.chunk_words.specs.GoesOn.{GoesOn}
 use Rattle.chunk_words.specs.Told.{ShowsTold, TellsComplete}
 use Rattle.chunk_words.proofs.Telling.{told_ready, look_shows}
 use Rattle.chunk_words.proofs.Passing.{goes_same, goes_further, goes_look, goes_take}
-use Rattle.chunk_words.specs.Moves.{Mine, IsSeen, IsTakenWith, Peeks, ReadsHeader, Recalls, Looks, Misses, Serves, Takes, Loads}
+use Rattle.chunk_words.specs.Moves.{Mine, IsSeen, Peeks, ReadsHeader, Recalls, Looks, Misses, Takes, Loads}
 use Rattle.chunk_words.proofs.Standing.{words_front}
 use Rattle.chunk_words.proofs.Bodies.{with_service_hand, in_before_service, bodies_stay, bodies_out}
 use Rattle.chunk_words.proofs.MailWords.{mail_apart, mail_loaded, mail_by_service}
@@ -93,12 +93,9 @@ module _ (setup : Setup) (count id made : ℕ) (desk : Desk) where
         record {
           seen = ∣ record {
             world = r.world;
-            writers = r.kept.writers;
-            chunks = r.kept.shown.chunk_count;
-            owned = r.kept.owned;
-            own = r.kept.own;
+            may_be = record { writers = r.kept.writers; chunks = r.kept.shown.chunk_count; owned = r.kept.owned; own = r.kept.own };
             view_is = sym f.0;
-            state = state;
+            shows = subst (λ w. ShowsPage setup r.world (spot setup chunk) w (status r.world chunk)) (sym (page_is setup s r chunk inside)) (r.kept.shown.page chunk inside);
           } ∣₁;
           new_is = refl;
           told = λ i position tale content there begun untaken.

@@ -34,7 +34,8 @@ pub record HasWriterSeats (table : HostTable) (count : ℕ) (seats : List Writer
       → (seat.place ≡ place) × Sits table seat × (view_of seat.seat.me.0 ≡ newcomer)
 
 -- a table that threads share, as it is made for these producers and writers, with the seats of the writers and the service's
-pub record IsNewTable (producers : List ProducerSpec) (writers : List WriterSpec) (table : HostTable) (given : List WriterSeat) (server : ServiceSeat) : Type 0 where
+pub record IsNewTable (producers : List ProducerSpec) (writers : List WriterSpec) (table : HostTable) (given : List WriterSeat)
+    (server : ServiceSeat) : Type 0 where
   pub setup : table.layout ≡ setup_of producers writers
   pub seats : HasWriterSeats table (length writers) given
   pub service : Attends table server

@@ -143,7 +143,7 @@ Completes setup chunk position body me new =
 abbrev pub Notes : Call → Mine → Mine → Type 0
 Notes call me new = new ≡ (by_writer 0 (λ view. notes_call view call) me.0, [])
 
--- The page word is found and watched. It is the chunk's, with the state that the chunk has now; it shows the chunk complete where that was told.
+-- The page word is found and watched. In some world with the service's view it shows the chunk; it shows it complete where that was told.
 pub record Peeks (setup : Setup) (chunk : ℕ) (me : Mine) (found : ℕ) (new : Mine) : Type 0 where
   pub seen : ∥ WasSeen setup chunk found (service_of me.0) ∥₁
   pub new_is : new ≡ (by_service 0 (Peeked chunk found) (λ view. view) me.0, [])
@@ -190,7 +190,8 @@ pub record LearnsRequest (me : Mine) (found : ℕ) (new : Mine) : Type 0 where
 abbrev pub GivesAnswer : (flush chunks : ℕ) → Mine → Mine → Type 0
 GivesAnswer flush chunks me new = new ≡ (by_writer 0 (λ view. answers_with view flush chunks) me.0, [])
 
--- The service's view is its part of some owned world in which this is the last answer of the writer at this place: 0 and 0 where it gave none.
+-- The service's view is its part of some owned world in which this is the last answer of the writer at this place: 0 and 0 where it gave
+-- none.
 abbrev pub IsLastAnswer : ServiceView → (place flush chunks : ℕ) → Type 0
 IsLastAnswer view place flush chunks =
     ∥ ((world : World) × IsOwned world × AreLetters world × (world.service ≡ view) × IsLastOf (writer world place) flush chunks) ∥₁

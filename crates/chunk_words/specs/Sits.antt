@@ -23,7 +23,7 @@ pub record CanStep (table : HostTable) (seat : WriterSeat) : Type 0 where
   pub idle : IsIdle seat.place seat.seat.me
 
 -- The seat is the same one of the same table behind a step of its writer, which makes this of what it knows and has.
-pub record Leaves (old new : WriterSeat) (step : Mine → Mine → Type 0) : Type 0 where
+pub record WriterLeaves (old new : WriterSeat) (step : Mine → Mine → Type 0) : Type 0 where
   pub seat : new.seat.table_id ≡ old.seat.table_id
   pub place : new.place ≡ old.place
   pub me : step old.seat.me new.seat.me

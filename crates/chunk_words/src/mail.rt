@@ -10,7 +10,7 @@ ghost use Rattle.chunk_plain.specs.Letters.{last_flush, knows_request, answers_w
 ghost use Rattle.chunk_plain.specs.Owned.{held_count};
 ghost use Rattle.chunk_words.specs.Knows.{Here, Unmade, view_of, service_of, desk_of, stage_of, passed_of, staged, later};
 ghost use Rattle.chunk_words.specs.Moves.{LearnsRequest, GivesAnswer, ReadsAnswer, NotesRequest, Compares, Serves, IsAnswer};
-ghost use Rattle.chunk_words.specs.Sits.{Sits, Attends, Passes, CanStep, Leaves, CanServe, ServiceLeaves, JoinsPass};
+ghost use Rattle.chunk_words.specs.Sits.{Sits, Attends, Passes, CanStep, WriterLeaves, CanServe, ServiceLeaves, JoinsPass};
 
 use crate::host::HostTable;
 use crate::moves::Move;
@@ -155,7 +155,7 @@ impl HostTable {
 
     fn step_learn_request(&self, seat: &mut WriterSeat) -> u64
         requires seat { CanStep self.now seat.old }
-        ensures { Leaves seat.old seat.new (λ me new. LearnsRequest me result new) }
+        ensures { WriterLeaves seat.old seat.new (λ me new. LearnsRequest me result new) }
     {
         let table = &self.table;
         make_load(
@@ -173,7 +173,7 @@ impl HostTable {
         requires newer { last_flush (view_of seat.old.seat.me.0).letters.answers < flush }
         requires chunks { chunks ≡ length (completed_images (view_of seat.old.seat.me.0).begun) }
         requires none_held { held_count (take chunks (view_of seat.old.seat.me.0).begun) ≡ 0 }
-        ensures { Leaves seat.old seat.new (GivesAnswer flush chunks) }
+        ensures { WriterLeaves seat.old seat.new (GivesAnswer flush chunks) }
     {
         let index = self.answer_index(seat.place);
         let word = flush as u64 * 4_294_967_296 + chunks as u64;

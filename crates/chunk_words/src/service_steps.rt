@@ -119,7 +119,8 @@ impl HostTable {
         requires chunk { chunk < length self.now.layout.spots }
         requires writer { writer < length self.now.layout.writers }
         requires next { WatchesNext self.now.layout writer chunk word header seat.old.seat.me }
-        ensures { ServiceLeaves seat.old seat.new (Takes self.now.layout writer chunk (spot self.now.layout chunk).payload_size word header) }
+        ensures { ServiceLeaves seat.old seat.new (Takes self.now.layout writer chunk (spot self.now.layout chunk).payload_size
+            word header) }
     {
         let spot = self.layout.spot(chunk);
         let step = Move::Take {
@@ -250,7 +251,8 @@ impl HostTable {
         patches: &[Patch],
     )
         requires seat { CanServe self.now seat.old }
-        ensures { ServiceLeaves seat.old seat.new (Serves (λ view. notes_commit view (committed_of self.now.layout header payload.now patches.now))) }
+        ensures { ServiceLeaves seat.old seat.new (Serves (λ view. notes_commit view
+            (committed_of self.now.layout header payload.now patches.now))) }
     {
         let step = Move::Commit {
             layout: &self.layout,

@@ -9,7 +9,7 @@ ghost use Rattle.chunk_plain.specs.Words.{IsPublished, StaysOutside, PublishesBy
 ghost use Rattle.chunk_plain.specs.Calls.{MayBegin, MayGetHead, MayPublishRange, MayStoreWords};
 ghost use Rattle.chunk_words.specs.Knows.{view_of};
 ghost use Rattle.chunk_words.specs.Moves.{Stores};
-ghost use Rattle.chunk_words.specs.Sits.{Sits, CanStep, Leaves};
+ghost use Rattle.chunk_words.specs.Sits.{Sits, CanStep, WriterLeaves};
 
 use crate::host::HostTable;
 use crate::seats::WriterSeat;
@@ -119,7 +119,7 @@ impl HostTable {
         requires seat { CanStep self.now seat.old }
         requires chunk { chunk < length self.now.layout.spots }
         requires may { MayStoreWords self.now.layout (view_of seat.old.seat.me.0) chunk position first end copy.now }
-        ensures { Leaves seat.old seat.new (Stores chunk position first end copy.now) }
+        ensures { WriterLeaves seat.old seat.new (Stores chunk position first end copy.now) }
     {
         // Behind an atomic step all is read anew: so the loop reads no more than it has to.
         let start = self.first_index(chunk);

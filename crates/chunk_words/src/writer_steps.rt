@@ -10,7 +10,7 @@ ghost use Rattle.chunk_words.specs.Knows.{view_of};
 ghost use Rattle.chunk_words.specs.Moves.{Asks, Claims, Stamps, Begins, SetsHeader, Publishes, KeepsWord, Fetches, Completes, Notes, body_in};
 ghost use Rattle.chunk_words.specs.Places.{payload_start, payload_words};
 ghost use Rattle.chunk_words.specs.Seats.{HasOut};
-ghost use Rattle.chunk_words.specs.Sits.{CanStep, Leaves};
+ghost use Rattle.chunk_words.specs.Sits.{CanStep, WriterLeaves};
 
 use crate::host::HostTable;
 use crate::moves::Move;
@@ -26,7 +26,7 @@ impl HostTable {
     pub(crate) fn step_ask(&self, seat: &mut WriterSeat, chunk: u32) -> u64
         requires seat { CanStep self.now seat.old }
         requires chunk { IsChunkOf self.now.layout (producer_of self.now.layout seat.old.place) chunk }
-        ensures { Leaves seat.old seat.new (λ me new. Asks self.now.layout chunk me result new) }
+        ensures { WriterLeaves seat.old seat.new (λ me new. Asks self.now.layout chunk me result new) }
     {
         let spot = self.layout.spot(chunk);
         let step = Move::Ask {
@@ -46,7 +46,7 @@ impl HostTable {
     pub(crate) fn step_claim(&self, seat: &mut WriterSeat, chunk: u32) -> u64
         requires seat { CanStep self.now seat.old }
         requires chunk { IsChunkOf self.now.layout (producer_of self.now.layout seat.old.place) chunk }
-        ensures { Leaves seat.old seat.new (λ me new. Claims self.now.layout chunk me result new) }
+        ensures { WriterLeaves seat.old seat.new (λ me new. Claims self.now.layout chunk me result new) }
     {
         let spot = self.layout.spot(chunk);
         let mask = claim_mask(spot.place, spot.layout);
@@ -68,7 +68,7 @@ impl HostTable {
         requires unstamped { (view_of seat.old.seat.me.0).stamped ≡ None }
         requires id { id ≡ id_at self.now.layout seat.old.place (length (view_of seat.old.seat.me.0).begun) }
         requires few_begun { length (view_of seat.old.seat.me.0).begun < POSITION_LIMIT }
-        ensures { Leaves seat.old seat.new (Stamps chunk (spot self.now.layout chunk).payload_size) }
+        ensures { WriterLeaves seat.old seat.new (Stamps chunk (spot self.now.layout chunk).payload_size) }
     {
         let spot = self.layout.spot(chunk);
         let header = ChunkHeader {
@@ -101,7 +101,7 @@ impl HostTable {
           position = length (view_of
               seat.old.seat.me.0).begun;
         }) }
-        ensures { Leaves seat.old seat.new (Begins chunk (spot self.now.layout chunk).payload_size) }
+        ensures { WriterLeaves seat.old seat.new (Begins chunk (spot self.now.layout chunk).payload_size) }
     {
         let spot = self.layout.spot(chunk);
         let step = Move::Begin {
@@ -131,7 +131,7 @@ impl HostTable {
         requires place { seat.old.place < length self.now.layout.writers }
         requires chunk { chunk < length self.now.layout.spots }
         requires head { MayGetHead self.now.layout (view_of seat.old.seat.me.0) chunk position (record { count = count; flags = flags }) }
-        ensures { Leaves seat.old seat.new (SetsHeader chunk position (record { count = count; flags = flags })) }
+        ensures { WriterLeaves seat.old seat.new (SetsHeader chunk position (record { count = count; flags = flags })) }
     {
         let header = ChunkHeader {
             chunk_id: self.layout.id_at(seat.place, position),
@@ -171,7 +171,7 @@ impl HostTable {
         requires held { IsHolding (view_of seat.old.seat.me.0) chunk position }
         requires index { index < payload_words self.now.layout chunk }
         requires kept { KeepsWord (draft_at (view_of seat.old.seat.me.0) position) index word }
-        ensures { Leaves seat.old seat.new (Publishes chunk position index word) }
+        ensures { WriterLeaves seat.old seat.new (Publishes chunk position index word) }
     {
         let step = Move::Publish {
             chunk,
@@ -194,7 +194,7 @@ impl HostTable {
         requires seat { CanStep self.now seat.old }
         requires chunk { chunk < length self.now.layout.spots }
         requires held { IsHolding (view_of seat.old.seat.me.0) chunk position }
-        ensures { Leaves seat.old seat.new (Fetches chunk) }
+        ensures { WriterLeaves seat.old seat.new (Fetches chunk) }
     {
         let _ = position;
         let table = &self.table;
@@ -215,7 +215,8 @@ impl HostTable {
         requires out { HasOut seat.old.place chunk (body_in seat.old.seat.me.1) seat.old.seat.me }
         requires whole { IfSome (body_in seat.old.seat.me.1) (λ body. StandsWhole (spot self.now.layout chunk).payload_size (view_of
             seat.old.seat.me.0) position body) }
-        ensures { Leaves seat.old seat.new (λ me new. IfSome (body_in me.1) (λ body. Completes self.now.layout chunk position body me new)) }
+        ensures { WriterLeaves seat.old seat.new (λ me new. IfSome (body_in me.1)
+            (λ body. Completes self.now.layout chunk position body me new)) }
     {
         let spot = self.layout.spot(chunk);
         let table = &self.table;
@@ -235,7 +236,7 @@ impl HostTable {
     /// Notes a call.
     pub(crate) fn step_call(&self, seat: &mut WriterSeat, call: WriterCall<'_>)
         requires seat { CanStep self.now seat.old }
-        ensures { Leaves seat.old seat.new (Notes (call_of call.entry)) }
+        ensures { WriterLeaves seat.old seat.new (Notes (call_of call.entry)) }
     {
         let table = &self.table;
         make_load(

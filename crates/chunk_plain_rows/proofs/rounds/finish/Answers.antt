@@ -1,10 +1,20 @@
-use Rattle.std.proofs.Common.{◌≡◌, ℕ, ◌<◌, length, subst, sym, arith}
+use Rattle.std.proofs.Common.{◌≡◌, ℕ, ◌<◌, length, subst, sym, arith, rules}
+use Rattle.std.proofs.lemmas.Grind.{common_steps}
 use Rattle.chunk_plain.specs.declared.tokens.Held.{Held as HeldToken}
 use Rattle.chunk_plain.specs.Payload.{byte_in}
 use Rattle.chunk_plain.specs.Views.{Draft}
 use Rattle.chunk_plain.specs.Drafts.{draft_at, published}
 use Rattle.chunk_plain.proofs.Holding.{redrafts_holds, published_more}
 use Rattle.chunk_plain_rows.proofs.rounds.finish.Goals as goal
+
+pub publish-requires-clause-may : goal.publish-requires-clause-may
+publish-requires-clause-may g c = record {
+  held = c.requires.holding;
+  size = c.requires.size;
+  order = omega arith;
+  inside = first_of (search rules, grind (arith, common_steps));
+  kept = c.requires.sealed;
+}
 
 pub complete-requires-clause-held : goal.complete-requires-clause-held
 complete-requires-clause-held g c =

@@ -18,7 +18,12 @@ begin-held-requires-clause-may g c = record {
   claimed = let won = c.in_ok-claimed.ensures.won in
       subst (λ d. HasClaimed (g.W.Words.means.view c.claim_try.new.self c.claim_try.new.seat) d) (sym c.in_ok-claimed.ensures.chunk)
       (claims_has (g.W.Words.means.view c.args.table.now c.args.seat.now) (g.W.Words.means.view c.claim_try.new.self c.claim_try.new.seat) c.args.chunk won.found won.view);
-  id_is = first_of (search rules, grind (arith, common_steps));
+  id_is = let won = c.in_ok-claimed.ensures.won in
+      let place = g.W.Words.means.place c.args.seat.now in
+      let stays = c.in_ok-claimed.ensures.step.place_stays in
+      c.requires.id ∙ ap (id_at (g.W.Words.means.setup c.args.table.now) place) (sym (ap (λ (v : WriterView). length v.begun) won.view))
+      ∙ ap (λ (s : Setup). id_at s place (length (g.W.Words.means.view c.claim_try.new.self c.claim_try.new.seat).begun)) (sym c.in_ok-claimed.ensures.step.setup_stays)
+      ∙ ap (λ (p : ℕ). id_at (g.W.Words.means.setup c.claim_try.new.self) p (length (g.W.Words.means.view c.claim_try.new.self c.claim_try.new.seat).begun)) (sym stays);
   few_begun = first_of (search rules, grind (arith, common_steps));
 }
 
@@ -150,12 +155,3 @@ returns-clause-step g c =
     let one = steps_follow g.W.Words.means c.args.table.now c.args.seat.now c.claim_try.new.self c.claim_try.new.seat c.begin-held.new.self c.begin-held.new.seat c.in_ok-claimed.ensures.step c.begin-held.ensures.step in
     let two = steps_follow g.W.Words.means c.args.table.now c.args.seat.now c.begin-held.new.self c.begin-held.new.seat c.publish.new.self c.publish.new.seat one c.publish.ensures.step in
     steps_follow g.W.Words.means c.args.table.now c.args.seat.now c.publish.new.self c.publish.new.seat c.set_header.new.self c.set_header.new.seat two c.set_header.ensures.step
-
-pub begin-held-requires-clause-id : goal.begin-held-requires-clause-id
-begin-held-requires-clause-id g c =
-    let won = c.in_ok-claimed.ensures.won in
-    let place = g.W.Words.means.place c.args.seat.now in
-    let stays = c.in_ok-claimed.ensures.step.place_stays in
-    c.requires.id ∙ ap (id_at (g.W.Words.means.setup c.args.table.now) place) (sym (ap (λ (v : WriterView). length v.begun) won.view))
-    ∙ ap (λ (s : Setup). id_at s place (length (g.W.Words.means.view c.claim_try.new.self c.claim_try.new.seat).begun)) (sym c.in_ok-claimed.ensures.step.setup_stays)
-    ∙ ap (λ (p : ℕ). id_at (g.W.Words.means.setup c.claim_try.new.self) p (length (g.W.Words.means.view c.claim_try.new.self c.claim_try.new.seat).begun)) (sym stays)

@@ -1,8 +1,8 @@
-use Rattle.std.proofs.Common.{◌≡◌, ℕ, ◌<◌, length, subst, sym, ap, arith, rules}
+use Rattle.std.proofs.Common.{◌≡◌, ℕ, ◌<◌, length, subst, sym, arith, rules}
 use Rattle.std.proofs.lemmas.Grind.{common_steps}
 use Rattle.chunk_plain.specs.declared.tokens.Held.{Held as HeldToken}
-use Rattle.chunk_plain.specs.Payload.{byte_in, sealed_to}
-use Rattle.chunk_plain.specs.Views.{Draft, WriterView}
+use Rattle.chunk_plain.specs.Payload.{byte_in}
+use Rattle.chunk_plain.specs.Views.{Draft}
 use Rattle.chunk_plain.specs.Drafts.{draft_at, published, IsHolding}
 use Rattle.chunk_plain.proofs.Holding.{redrafts_holds, published_more}
 use Rattle.chunk_plain.proofs.SeatSteps.{steps_follow}

@@ -1,4 +1,5 @@
-use Rattle.std.proofs.Common.{ℕ, ◌∙◌, sym, ap}
+use Rattle.std.proofs.Common.{ℕ, ◌∙◌, sym, ap, arith, rules}
+use Rattle.std.proofs.lemmas.Grind.{common_steps}
 use Rattle.trace_base.specs.Ids.{id_of}
 use Rattle.page_geometry.specs.Header.{packed}
 use Rattle.chunk_plain.specs.Words.{taken_content}
@@ -12,8 +13,13 @@ release-requires-clause-reading g c =
     takes_reads (g.W.Words.means.service_view c.args.table.now c.args.seat.now) (g.W.Words.means.service_view c.take.new.self c.take.new.seat) c.args.chunk c.in-Ok.token.chunk
     taken.word (packed c.in-Ok.token.header) 0 _ (taken_content (g.W.Words.means.setup c.args.table.now) 0 (taken_of (g.W.Words.means.service_view c.args.table.now c.args.seat.now) 0).count c.in-Ok.token) taken.view taken.chunk_is
 
-pub take-requires-clause-id : goal.take-requires-clause-id
-take-requires-clause-id g c =
-    let collects = c.requires.collects in
-    c.id_of.ensures ∙ ap (id_of 0) collects.count
-    ∙ ap (λ (f : ℕ). id_of f (taken_of (g.W.Words.means.service_view c.args.table.now c.args.seat.now) 0).count) (sym collects.from)
+pub take-requires-clause-next : goal.take-requires-clause-next
+take-requires-clause-next g c = record {
+  inside = first_of (search rules, grind (arith, common_steps));
+  least = first_of (search rules, grind (arith, common_steps));
+  most = first_of (search rules, grind (arith, common_steps));
+  id_is = let collects = c.requires.collects in
+      c.id_of.ensures ∙ ap (id_of 0) collects.count
+      ∙ ap (λ (f : ℕ). id_of f (taken_of (g.W.Words.means.service_view c.args.table.now c.args.seat.now) 0).count) (sym collects.from);
+}
+
