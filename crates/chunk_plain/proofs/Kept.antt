@@ -1,5 +1,5 @@
 -- Each call of the table of one thread keeps what the table keeps.
-use Rattle.std.proofs.Common.{◌≡◌, ◌≢◌, ℕ, ◌+◌, ◌<◌, ◌⊎◌, ◌↔◌, inl, inr, not, IsTrue, Bool, true, false, List, length, set, get_or, subst, sym, refl, ap, ◌∙◌, arith, ⊎_elim, length-set}
+use Rattle.std.proofs.Common.{◌≡◌, ◌≢◌, ℕ, ◌+◌, ◌<◌, ◌⊎◌, ◌↔◌, inl, inr, not, IsTrue, Bool, true, false, List, [], ◌∷◌, ◌++◌, length, set, get_or, subst, sym, refl, ap, ◌∙◌, arith, ⊎_elim, length-set}
 use Rattle.std.specs.Int.{bit_at}
 use Rattle.std.proofs.lemmas.List.{get_or-set_same, get_or-set_other, set-get_or}
 use Rattle.page_geometry.specs.PageBits.{HasLayout, Claims, KeepsOthers, IsClaimed}
@@ -46,15 +46,14 @@ own_same setup writers place view inside same own k i ask =
     (λ _ at. own k i ask at)
 
 -- and so is one claim more of such a chunk
-own_more : (setup : Setup) (writers : List WriterView) (place chunk found : ℕ) (won : Bool) → place < length writers
-    → IsChunkOf setup (producer_of setup place) chunk → AskTheirOwn setup writers
-    → AskTheirOwn setup (set writers place (claims (get_or writers place newcomer) chunk found won))
-own_more setup writers place chunk found won inside of own k i ask =
-    let v = get_or writers place newcomer in
-    changed (λ (v : WriterView). At v.asked i ask → IsChunkOf setup (producer_of setup k) ask.chunk) writers place k (claims v chunk found won) newcomer inside
+own_more : (setup : Setup) (writers : List WriterView) (place : ℕ) (view : WriterView) (more : Ask) → place < length writers
+    → view.asked ≡ (get_or writers place newcomer).asked ++ more ∷ [] → IsChunkOf setup (producer_of setup place) more.chunk → AskTheirOwn setup writers
+    → AskTheirOwn setup (set writers place view)
+own_more setup writers place view more inside asks of own k i ask =
+    changed (λ (v : WriterView). At v.asked i ask → IsChunkOf setup (producer_of setup k) ask.chunk) writers place k view newcomer inside
     (λ is at. ⊎_elim (λ old. own k i ask (subst (λ p. At (get_or writers p newcomer).asked i ask) (sym is) old))
-    (λ new. subst (λ (a : Ask). IsChunkOf setup (producer_of setup k) a.chunk) new.1 (subst (λ p. IsChunkOf setup (producer_of setup p) chunk) (sym is) of))
-    (at_more v.asked (record { chunk = chunk; found = found; won = won; calls = length v.calls }) ask i at))
+    (λ new. subst (λ (a : Ask). IsChunkOf setup (producer_of setup k) a.chunk) new.1 (subst (λ p. IsChunkOf setup (producer_of setup p) more.chunk) (sym is) of))
+    (at_more (get_or writers place newcomer).asked more ask i (subst (λ l. At l i ask) asks at)))
     (λ _ at. own k i ask at)
 
 pub claim_bit_free : (word place : ℕ) (is : Status) → bit_at word (32 + place) ≡ claim_of is → (bit_at word (32 + place) ≡ 1 → ⊥) → is ≡ Unclaimed
@@ -98,7 +97,7 @@ claim_won setup words slots world place chunk found new laid kept inside_w insid
           (subst (λ t. ShowsSlot setup at.payload_size t (stored_at slots chunk)) (sym now) (record { room = before.room; words = tt; body = before.body }));
       owned = claims_owned world place chunk found kept.owned w_inside c_inside free;
       writers = length-set world.writers place (claims v chunk found true) ∙ kept.writers;
-      own = own_more setup world.writers place chunk found true w_inside of kept.own;
+      own = own_more setup world.writers place (claims v chunk found true) ask w_inside refl of kept.own;
     }
 
 claim_lost : (setup : Setup) (words : List ℕ) (slots : List Stored) (world : World) (place chunk found new : ℕ)
@@ -129,7 +128,7 @@ claim_lost setup words slots world place chunk found new laid kept inside_w insi
           (shown.slot chunk inside_c);
       owned = misses_owned world place chunk found kept.owned w_inside taken;
       writers = length-set world.writers place (claims v chunk found false) ∙ kept.writers;
-      own = own_more setup world.writers place chunk found false w_inside of kept.own;
+      own = own_more setup world.writers place (claims v chunk found false) ask w_inside refl of kept.own;
     }
 
 -- where a chunk is claimed, some writer asked for it: its page is laid out
