@@ -23,5 +23,6 @@ pub mod Resting
 pub mod WorldSet
 pub mod Publishing
 pub mod Taking
+pub mod ArrivedLemmas
 pub mod Agreeing
 pub mod AskOrder

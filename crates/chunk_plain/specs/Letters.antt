@@ -53,9 +53,9 @@ answers_with view flush chunks = record view {
   letters = record view.letters { answers = view.letters.answers ++ record { flush = flush; chunks = chunks; calls = length view.calls } ∷ [] };
 }
 
--- the service makes the next request
+-- the service makes the next request, behind all that it noted by then
 abbrev pub requests : ServiceView → ServiceView
-requests view = record view { letters = view.letters ++ Asked ∷ [] }
+requests view = record view { letters = view.letters ++ Asked (length view.events) ∷ [] }
 
 -- it reads this answer of the writer at this place
 abbrev pub hears_answer : ServiceView → (place flush chunks : ℕ) → ServiceView

@@ -147,16 +147,16 @@ pub record Committed : Type 0 where
   pub image : Image
   pub patches : List Patch
 
--- What the service did for flush requests: it made the next one; or it read of the writer at this place this answer, where 0 is the number
--- of none.
+-- What the service did for flush requests: it made the next one, behind so many events; or it read of the writer at this place this answer,
+-- where 0 is the number of none.
 pub data Letter : Type 0 where
-  Asked : Letter
+  Asked : (events : ℕ) → Letter
   Heard : (place flush chunks : ℕ) → Letter
 
 -- how many requests it made
 abbrev pub asked_in : List Letter → ℕ
 asked_in [] = 0
-asked_in (Asked ∷ letters) = asked_in letters + 1
+asked_in (Asked events ∷ letters) = asked_in letters + 1
 asked_in (Heard place flush chunks ∷ letters) = asked_in letters
 
 -- what the service's seat has done

@@ -1,6 +1,7 @@
 -- What a call on a table does to the views of its seats, and what the views have between two calls.
-use Rattle.std.specs.Prelude.{◌≡◌, ℕ, ◌+◌, ◌-◌, ◌*◌, ◌/◌, ◌%◌, ◌^◌, ◌<◌, ◌≤◌, ◌≢◌, ◌⊎◌, Bool, true, Option, Some, None, List, [], length, map, vec_len, slice_index_or, if◌then◌else◌}
+use Rattle.std.specs.Prelude.{◌≡◌, ℕ, ◌+◌, ◌-◌, ◌*◌, ◌/◌, ◌%◌, ◌^◌, ◌<◌, ◌≤◌, ◌≢◌, ◌==◌, ◌&&◌, ◌⊎◌, Bool, true, false, Option, Some, None, List, [], length, map, vec_len, slice_index_or, if◌then◌else◌}
 use Rattle.std.specs.Int.{bit_at}
+use Rattle.std.specs.List.{list_any}
 use Rattle.trace_base.specs.declared.limits.TheConstants.{MAX_FRAGMENTS}
 use Rattle.page_geometry.specs.declared.chunk_header.TheConstants.{MAX_FLAGS}
 use Rattle.page_geometry.specs.declared.page_word.TheConstants.{CLAIM_BIT}
@@ -20,7 +21,7 @@ use Rattle.chunk_plain.specs.declared.notes.ServiceEvent.TheVariants as event
 use Rattle.chunk_plain.specs.declared.tokens.Held.{Held as HeldToken}
 use Rattle.chunk_plain.specs.declared.tokens.Taken.{Taken as TakenToken}
 use Rattle.chunk_plain.specs.declared.tokens.NotComplete.{NotComplete}
-use Rattle.chunk_plain.specs.Setup.{Setup, spot, producer_of, from_of, IsChunkOf, id_at}
+use Rattle.chunk_plain.specs.Setup.{Setup, spot, producer_of, from_of, sequence_of, IsChunkOf, id_at}
 use Rattle.chunk_plain.specs.Payload.{byte_at, byte_in, sealed_to}
 use Rattle.chunk_plain.specs.Views.{At, Ask, Content, BegunChunk, chunk_of, WriterView, newcomer, Found, Look, ServiceView, taken_of, Noted, Arrive, Partial, Patched, Closed, Read, Committed}
 use Rattle.chunk_plain.specs.Steps.{claims, stamps, begins, redrafts, looks_at, takes_in, learns}
@@ -48,6 +49,25 @@ pub record IsAtRest (setup : Setup) (place : ℕ) (view : WriterView) : Type 0 w
 pub record IsServing (setup : Setup) (view : ServiceView) : Type 0 where
   pub writers : length view.taken ≡ length setup.writers
   pub level : (place : ℕ) → length (taken_of view place).contents ≡ (taken_of view place).count
+
+-- whether the note says that the chunk at this position of the sequence arrived
+abbrev pub is_arrival_note : (sequence position : ℕ) → Noted → Bool
+is_arrival_note sequence position (Arrive other number) = (other == sequence) && (number == position)
+is_arrival_note sequence position note = false
+
+-- whether one of the notes does
+abbrev pub is_arrival_noted : (sequence position : ℕ) → List Noted → Bool
+is_arrival_noted sequence position notes = list_any (is_arrival_note sequence position) notes
+
+-- the arrival of each chunk that was taken is noted
+abbrev pub AllArrived : ServiceView → Type 0
+AllArrived view =
+    (place position : ℕ) → position < (taken_of view place).count → is_arrival_noted (sequence_of place) position view.events ≡ true
+
+-- and of each but the one at this position of the writer at this place, whose arrival may be noted later
+abbrev pub OthersArrived : ServiceView → (place position : ℕ) → Type 0
+OthersArrived view place position = (other number : ℕ) → number < (taken_of view other).count
+    → (is_arrival_noted (sequence_of other) number view.events ≡ true) ⊎ ((other ≡ place) × (number ≡ position))
 
 -- Once the content of a position is in the view, what a look found of it are its first fragments, and it has at least as many as were
 -- counted then.

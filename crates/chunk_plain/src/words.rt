@@ -12,7 +12,7 @@ ghost use Rattle.chunk_plain.specs.Owned.{times, held_count, IsOwned};
 ghost use Rattle.chunk_plain.specs.Drafts.{draft_at, ends_by, IsHolding};
 ghost use Rattle.chunk_plain.specs.Shows.{ShowsPage, ShowsHeader, ShowsPayload};
 ghost use Rattle.chunk_plain.specs.Meaning.{Meaning, IsWriterStep, IsServiceStep};
-ghost use Rattle.chunk_plain.specs.Words.{IsAtRest, IsServing, LearntAsFound, LooksAgree, TriesClaim, WasHad, IsBegun, BeginsChunk, IsPublished, PublishesBytes, completed_content, LooksAt, taken_content, TakesChunk, FindsOther, call_of, event_of, IsReadEvent, committed_of};
+ghost use Rattle.chunk_plain.specs.Words.{IsAtRest, IsServing, LearntAsFound, LooksAgree, TriesClaim, WasHad, IsBegun, BeginsChunk, IsPublished, PublishesBytes, completed_content, LooksAt, taken_content, TakesChunk, FindsOther, call_of, event_of, IsReadEvent, committed_of, AllArrived};
 ghost use Rattle.chunk_plain.specs.Calls.{MayBegin, MayGetHead, MayPublishRange, AsksForNext, LoadsPayload};
 
 use crate::notes::{ServiceEvent, WriterCall};
@@ -162,10 +162,12 @@ pub trait Words {
             ≡ Ready (writer - 1) (taken_of (means.service_view self.old seat.old) (writer - 1)).count content → ⊥)
             × (means.told self.new ≡ Some (serviced world (means.service_view self.new seat.new)))) };
 
-    /// The body goes back into the table, and then the chunk is free.
+    /// The body goes back into the table, and then the chunk is free. The arrival of all that was taken
+    /// is noted before.
     fn release(&mut self, seat: &mut Self::Service, taken: Taken)
         requires seat { means.serves self.old seat.old }
         requires reading { 0 < times taken.chunk (means.service_view self.old seat.old).reading }
+        requires arrived { AllArrived (means.service_view self.old seat.old) }
         requires size { vec_len taken.body.payload ≡ (spot (means.setup self.old) taken.chunk).payload_size }
         ensures view { means.service_view self.new seat.new ≡ lets_go (means.service_view self.old seat.old) taken.chunk }
         ensures step { IsServiceStep means self.old seat.old self.new seat.new }
