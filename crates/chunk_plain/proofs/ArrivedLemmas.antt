@@ -81,7 +81,8 @@ next_arrives old place chunk word header content inside all =
 
 -- and behind a call that took it
 pub takes_arrive : (setup : Setup) (old new : ServiceView) (chunk writer id : ℕ) (taken : TakenToken)
-    → TakesChunk setup chunk writer id taken old new → writer - 1 < length old.taken → AllArrived old → OthersArrived new (writer - 1) (taken_of old (writer - 1)).count
+    → TakesChunk setup chunk writer id taken old new → writer - 1 < length old.taken → AllArrived old
+    → OthersArrived new (writer - 1) (taken_of old (writer - 1)).count
 takes_arrive setup old new chunk writer id taken takes inside all =
     let content : Content = taken_content setup (writer - 1) (taken_of old (writer - 1)).count taken in
     subst (λ (view : ServiceView). OthersArrived view (writer - 1) (taken_of old (writer - 1)).count) (sym takes.view)

@@ -2,3 +2,5 @@ pub mod Leading
 pub mod MoveLemmas
 pub mod ScheduleLemmas
 pub mod VainLemmas
+pub mod ArrivalLemmas
+pub mod RequestLemmas

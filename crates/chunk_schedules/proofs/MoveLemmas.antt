@@ -49,7 +49,8 @@ move_keeps setup world (Calls place call) may owned = notes_call_owned world pla
 move_keeps setup world (Looks chunk word header found) may owned = looks_owned world chunk word header found owned may.there
 move_keeps setup world (Takes place chunk word header) may owned = takes_keep world place chunk word header owned may.0 may.1 may.2
 move_keeps setup world (Learns place chunk content) may owned = learns_owned world place chunk content owned may.0 may.1.taken may.1.completed
-move_keeps setup world (Releases chunk) may owned = lets_go_owned world chunk may.1.0 may.1.1 may.1.2 owned may.0 may.1.3
+move_keeps setup world (Releases chunk) may owned =
+    lets_go_owned world chunk may.1.place may.1.position may.1.content owned may.0 may.1.reading
 move_keeps setup world (Notes event) may owned = serviced_owned world (notes world.service event) owned refl refl refl
 move_keeps setup world (Commits committed) may owned = serviced_owned world (notes_commit world.service committed) owned refl refl refl
 move_keeps setup world (HearsOf place number) may owned =

@@ -1,11 +1,12 @@
 -- The laws of schedules that hold on each table of chunks, whatever is read from it.
-use Rattle.std.specs.Prelude.{◌≡◌, ℕ, false, List, [], ◌∷◌, ◌++◌, length}
-use Rattle.chunk_plain.specs.Setup.{Setup}
-use Rattle.chunk_plain.specs.Views.{At, Ask}
-use Rattle.chunk_plain.specs.World.{World, Unclaimed, status, writer}
+use Rattle.std.specs.Prelude.{◌≡◌, ◌⊎◌, ℕ, ◌<◌, true, false, List, [], ◌∷◌, ◌++◌, length}
+use Rattle.chunk_plain.specs.Setup.{Setup, sequence_of}
+use Rattle.chunk_plain.specs.Views.{At, Ask, Asked, Content, taken_of}
+use Rattle.chunk_plain.specs.World.{World, Reading, Unclaimed, status, writer}
 use Rattle.chunk_plain.specs.Plain.{first_world}
 use Rattle.chunk_plain.specs.Owned.{IsOwned}
-use Rattle.chunk_schedules.specs.Moves.{Move, Claims}
+use Rattle.chunk_plain.specs.Words.{is_arrival_noted}
+use Rattle.chunk_schedules.specs.Moves.{Move, Claims, Requests}
 use Rattle.chunk_schedules.specs.Schedules.{IsSchedule}
 
 -- No moves lead nowhere else; schedules go on one behind another; and each front of a schedule is one, which leads to a world on the way.
@@ -39,3 +40,33 @@ abbrev pub ClaimsInVainFindHad : Type 0
 ClaimsInVainFindHad = (setup : Setup) (moves : List Move) (world : World) → IsSchedule setup (first_world setup) moves world
     → (place number : ℕ) (ask : Ask) → At (writer world place).asked number ask → ask.won ≡ false
     → FindsHad setup moves (first_world setup) world place number ask
+
+-- The chunk at this position that was taken of the writer at this place is read still, or its arrival is noted.
+abbrev pub IsReadOrArrived : World → (place position : ℕ) → Type 0
+IsReadOrArrived world place position =
+    ((chunk : ℕ) × (content : Content) × (status world chunk ≡ Reading place position content))
+    ⊎ (is_arrival_noted (sequence_of place) position world.service.events ≡ true)
+
+-- Wherever a schedule leads, and so in each world on its way, whatever was taken and is read no longer has arrived.
+abbrev pub FreedHaveArrived : Type 0
+FreedHaveArrived = (setup : Setup) (moves : List Move) (world : World) → IsSchedule setup (first_world setup) moves world
+    → (place position : ℕ) → position < (taken_of world.service place).count → IsReadOrArrived world place position
+
+-- The given moves make the request that is this letter of the service: it is the one between those before and those after, and in the world
+-- to which those before lead so many events are noted, and no chunk is read.
+pub record FindsRequest (setup : Setup) (moves : List Move) (old new : World) (number events : ℕ) : Type 0 where
+  pub mid : World
+  pub before : List Move
+  pub after : List Move
+  pub moves_are : moves ≡ before ++ Requests ∷ after
+  pub first : IsSchedule setup old before mid
+  pub then : IsSchedule setup mid (Requests ∷ after) new
+  pub count : length mid.service.letters ≡ number
+  pub noted : length mid.service.events ≡ events
+  pub none_read : mid.service.reading ≡ []
+
+-- Each request of a schedule is one of its moves, made behind as many events as it says, while no chunk is read.
+abbrev pub RequestsAreMadeInTurn : Type 0
+RequestsAreMadeInTurn = (setup : Setup) (moves : List Move) (world : World) → IsSchedule setup (first_world setup) moves world
+    → (number events : ℕ) → At world.service.letters number (Asked events)
+    → FindsRequest setup moves (first_world setup) world number events

@@ -1,6 +1,6 @@
 -- The atomic steps that writers and the service make on a table of chunks, as moves of its world. Each is made by one of them and changes
 -- that seat's view and one chunk at most. A step that changes no view, as when a page word or a payload word is loaded, is no move.
-use Rattle.std.specs.Prelude.{◌≡◌, ℕ, ◌+◌, ◌*◌, ◌^◌, ◌<◌, ◌≤◌, true, false, Option, Some, None, List, length, take, slice_index_or}
+use Rattle.std.specs.Prelude.{◌≡◌, ℕ, ◌+◌, ◌*◌, ◌^◌, ◌<◌, ◌≤◌, true, false, Option, Some, None, List, [], length, take, slice_index_or}
 use Rattle.page_geometry.specs.declared.chunk_state.ChunkState.{ChunkState}
 use Rattle.page_geometry.specs.declared.chunk_state.ChunkState.TheVariants.{BeingWritten, Complete}
 use Rattle.page_geometry.specs.Header.{packed}
@@ -16,6 +16,7 @@ use Rattle.chunk_plain.specs.Owned.{times, held_count}
 use Rattle.chunk_plain.specs.Drafts.{MayFollow, IsDraft, IsFound, IsThere, IsHolding, head_of, draft_at, ends_by}
 use Rattle.chunk_plain.specs.Histories.{completed_images}
 use Rattle.chunk_plain.specs.Plain.{read_as}
+use Rattle.chunk_plain.specs.Words.{is_arrival_noted}
 use Rattle.chunk_plain.specs.declared.tokens.TheConstants.{POSITION_LIMIT}
 
 -- A writer is named by its place, from 0, and its chunks by their positions. The page words and header words that a step found are kept in
@@ -42,7 +43,7 @@ pub data Move : Type 0 where
   Takes : (place chunk word header : ℕ) → Move
   -- the content of a chunk that it took joins its view
   Learns : (place chunk : ℕ) → Content → Move
-  -- it frees a chunk that it read
+  -- it frees a chunk that it read, and whose arrival it noted
   Releases : (chunk : ℕ) → Move
   -- it notes an event
   Notes : Noted → Move
@@ -52,7 +53,7 @@ pub data Move : Type 0 where
   HearsOf : (place number : ℕ) → Move
   -- it answers the request with this number and those before it, with so many chunks
   Answers : (place flush chunks : ℕ) → Move
-  -- the service makes the next request
+  -- the service makes the next request, while it reads no chunk
   Requests : Move
   -- it reads this answer of a writer, where 0 is the number of none
   ReadsAnswer : (place flush chunks : ℕ) → Move
@@ -161,9 +162,13 @@ pub record MayLearn (world : World) (place chunk : ℕ) (content : Content) : Ty
   pub taken : length (taken_of world.service place).contents < (taken_of world.service place).count
   pub completed : At (writer world place).begun (length (taken_of world.service place).contents) (Completed chunk content)
 
--- the service is reading the chunk
-abbrev pub IsRead : World → (chunk : ℕ) → Type 0
-IsRead world chunk = (place : ℕ) × (position : ℕ) × (content : Content) × (status world chunk ≡ Reading place position content)
+-- the service is reading the chunk, and its arrival is noted
+pub record MayRelease (world : World) (chunk : ℕ) : Type 0 where
+  pub place : ℕ
+  pub position : ℕ
+  pub content : Content
+  pub reading : status world chunk ≡ Reading place position content
+  pub arrived : is_arrival_noted (sequence_of place) position world.service.events ≡ true
 
 -- a commit is noted with its image, and else an event alone
 abbrev pub IsPlainNote : Noted → Type 0
@@ -214,10 +219,10 @@ MayMove setup world (Takes place chunk word header) =
     IsWriter world place × IsChunk world chunk × IsNext world place chunk × SaysUse setup header (status world chunk)
     × SaysState setup chunk word Complete
 MayMove setup world (Learns place chunk content) = IsWriter world place × MayLearn world place chunk content
-MayMove setup world (Releases chunk) = IsChunk world chunk × IsRead world chunk
+MayMove setup world (Releases chunk) = IsChunk world chunk × MayRelease world chunk
 MayMove setup world (Notes event) = IsPlainNote event
 MayMove setup world (Commits committed) = Unit {0}
 MayMove setup world (HearsOf place number) = IsWriter world place × MayHear world place number
 MayMove setup world (Answers place flush chunks) = IsWriter world place × MayAnswer (writer world place) flush chunks
-MayMove setup world Requests = Unit {0}
+MayMove setup world Requests = world.service.reading ≡ []
 MayMove setup world (ReadsAnswer place flush chunks) = IsWriter world place × IsLastOf (writer world place) flush chunks

@@ -1,5 +1,6 @@
 //! The laws: contracts of functions with nothing to do.
 ghost use Rattle.chunk_schedules.specs.Laws.{SchedulesJoin, SchedulesKeepOwnership, ClaimsInVainFindHad};
+ghost use Rattle.chunk_schedules.specs.Laws.{FreedHaveArrived, RequestsAreMadeInTurn};
 
 /// Schedules go on one behind another, and each front of a schedule is one.
 pub fn schedules_join()
@@ -14,4 +15,14 @@ pub fn schedules_keep_ownership()
 /// Each claim in vain was made where somebody had the chunk.
 pub fn claims_in_vain_find_had()
     ensures { ClaimsInVainFindHad }
+{}
+
+/// What was taken and is read no longer has arrived.
+pub fn freed_have_arrived()
+    ensures { FreedHaveArrived }
+{}
+
+/// Each request was made behind as many events as it says, while no chunk was read.
+pub fn requests_are_made_in_turn()
+    ensures { RequestsAreMadeInTurn }
 {}

@@ -7,4 +7,7 @@
 
 mod laws;
 
-pub use laws::{claims_in_vain_find_had, schedules_join, schedules_keep_ownership};
+pub use laws::{
+    claims_in_vain_find_had, freed_have_arrived, requests_are_made_in_turn, schedules_join,
+    schedules_keep_ownership,
+};
