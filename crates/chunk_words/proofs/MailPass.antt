@@ -36,12 +36,13 @@ module _ (setup : Setup) (count id made : ℕ) (desk : Desk) (watch : Watch) (v 
       (subst (GoesOn r.roll.passed) (sym f.0) (r.manned.goes_on (subst IsMade (sym stage) tt))))
 
   -- the request joins both views
-  pub request_noted : (flush : ℕ) → flush ≡ asked_in v.letters + 1 → flush < 4294967296
+  pub request_noted : (flush : ℕ) → v.reading ≡ [] → flush ≡ asked_in v.letters + 1 → flush < 4294967296
       → Allows (IsShared setup) count id (Service 0 made desk watch v, []) (request_place setup) (λ _. flush) (λ _. NotesRequest (Service 0 made desk watch v, []))
-  request_noted flush next fits s r deep at small =
+  request_noted flush none_read next fits s r deep at small =
       let world = r.world in let f = r.manned.each id (Service 0 made desk watch v) at in let stage = f.6 ∙ here in let index = request_place setup in
-      let view = requests world.service in let after = serviced world view in let more = asked_more world.service.letters in
+      let view = requests world.service in let after = serviced world view in let more = asked_more world.service.letters (length world.service.events) in
       let next' : flush ≡ asked_in world.service.letters + 1 = subst (λ (z : ServiceView). flush ≡ asked_in z.letters + 1) f.0 next in
+      let none_read' : world.service.reading ≡ [] = subst (λ (z : ServiceView). z.reading ≡ []) f.0 none_read in
       let kept = serviced_kept setup r.front r.slots world view r.kept refl refl refl in
       let word_inside : index < length s.words = let total = r.words.total in omega (arith, total) in
       let none : IsNone s.views = λ seat known there. absurd (let clash = sym (r.manned.each seat (Pass known) there).2 ∙ stage in cc) in
@@ -69,7 +70,7 @@ module _ (setup : Setup) (count id made : ℕ) (desk : Desk) (watch : Watch) (v 
           roll = roll;
           laid = r.laid;
           kept = kept;
-          led = led_on setup r.roll.marks world after Requests r.led tt refl;
+          led = led_on setup r.roll.marks world after Requests r.led none_read' refl;
           words = words_above setup s.words r.front r.slots index flush (omega arith) r.words;
           mail = requested_mail setup world s.words flush word_inside next' fits r.mail;
           bodies = bodies_stay setup s.homes r.slots r.slots r.roll roll r.bodies (λ d. refl)

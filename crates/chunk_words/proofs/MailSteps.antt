@@ -104,14 +104,14 @@ last_none view are none = by_answers view.letters.answers refl
 
 -- ---- how many requests were made
 
-pub asked_more : (letters : List Letter) → asked_in (letters ++ Asked ∷ []) ≡ asked_in letters + 1
-asked_more [] = refl
-asked_more (Asked ∷ letters) = ap (λ n. n + 1) (asked_more letters)
-asked_more (Heard place flush chunks ∷ letters) = asked_more letters
+pub asked_more : (letters : List Letter) (events : ℕ) → asked_in (letters ++ Asked events ∷ []) ≡ asked_in letters + 1
+asked_more [] events = refl
+asked_more (Asked before ∷ letters) events = ap (λ n. n + 1) (asked_more letters events)
+asked_more (Heard place flush chunks ∷ letters) events = asked_more letters events
 
 pub asked_heard : (letters : List Letter) (place flush chunks : ℕ) → asked_in (letters ++ Heard place flush chunks ∷ []) ≡ asked_in letters
 asked_heard [] place flush chunks = refl
-asked_heard (Asked ∷ letters) place flush chunks = ap (λ n. n + 1) (asked_heard letters place flush chunks)
+asked_heard (Asked events ∷ letters) place flush chunks = ap (λ n. n + 1) (asked_heard letters place flush chunks)
 asked_heard (Heard other flush_ chunks_ ∷ letters) place flush chunks = asked_heard letters place flush chunks
 
 -- ---- a word behind the payload words is stored
@@ -270,7 +270,7 @@ answer_allowed setup count id k flush chunks v may s r deep at small =
 pub requested_mail : (setup : Setup) (world : World) (words : List ℕ) (flush : ℕ) → request_place setup < length words → flush ≡ asked_in world.service.letters + 1
     → flush < 4294967296 → HoldsMail setup world words → HoldsMail setup (serviced world (requests world.service)) (set words (request_place setup) flush)
 requested_mail setup world words flush inside next fits mail =
-    let letters = world.service.letters in let here = request_place setup in let more = asked_more letters in
+    let letters = world.service.letters in let here = request_place setup in let events = length world.service.events in let more = asked_more letters events in
     record {
       letters = record {
         known = λ k. let low = mail.letters.known k in omega (arith, low, more);
@@ -278,7 +278,7 @@ requested_mail setup world words flush inside next fits mail =
         heard = λ n k number many at some. ⊎_elim
             (λ old. mail.letters.heard n k number many old some)
             (λ new. absurd (let clash = new.1 in cc))
-            (at_more letters Asked (Heard k number many) n at);
+            (at_more letters (Asked events) (Heard k number many) n at);
       };
       few = omega (arith, more, next, fits);
       request = get_or-set_same words here flush 0 inside ∙ (next ∙ sym more);
@@ -292,7 +292,7 @@ halves word flush chunks is small = (omega (arith, is, small), omega (arith, is,
 
 -- what was read was given
 abbrev WasGiven : World → Letter → Type 0
-WasGiven world Asked = Unit {0}
+WasGiven world (Asked events) = Unit {0}
 WasGiven world (Heard place flush chunks) = 0 < flush → HasAnswered (writer world place).letters.answers flush chunks
 
 heard_mail : (setup : Setup) (world : World) (words : List ℕ) (k flush chunks : ℕ) → WasGiven world (Heard k flush chunks) → HoldsMail setup world words
@@ -314,13 +314,15 @@ heard_mail setup world words k flush chunks given mail =
     }
 
 module _ (setup : Setup) (count id made : ℕ) (desk : Desk) where
-  pub request_allowed : (watch : Watch) (flush : ℕ) (v : ServiceView) → desk.stage ≡ Unmade → flush ≡ asked_in v.letters + 1 → flush < 4294967296
+  pub request_allowed : (watch : Watch) (flush : ℕ) (v : ServiceView) → desk.stage ≡ Unmade → v.reading ≡ [] → flush ≡ asked_in v.letters + 1
+      → flush < 4294967296
       → Allows (IsShared setup) count id (Service 0 made desk watch v, []) (request_place setup) (λ _. flush)
       (λ _. Serves (λ view. requests view) (Service 0 made desk watch v, []))
-  request_allowed watch flush v unmade next fits s r deep at small =
+  request_allowed watch flush v unmade none next fits s r deep at small =
       let world = r.world in let f = r.manned.each id (Service 0 made desk watch v) at in let index = request_place setup in
-      let view = requests world.service in let after = serviced world view in let more = asked_more world.service.letters in
+      let view = requests world.service in let after = serviced world view in let more = asked_more world.service.letters (length world.service.events) in
       let next' : flush ≡ asked_in world.service.letters + 1 = subst (λ (z : ServiceView). flush ≡ asked_in z.letters + 1) f.0 next in
+      let none' : world.service.reading ≡ [] = subst (λ (z : ServiceView). z.reading ≡ []) f.0 none in
       let kept = serviced_kept setup r.front r.slots world view r.kept refl refl refl in
       let inside : index < length s.words = let total = r.words.total in omega (arith, total) in
       let roll = with_service_hand r.roll 0 in
@@ -336,7 +338,7 @@ module _ (setup : Setup) (count id made : ℕ) (desk : Desk) where
           roll = roll;
           laid = r.laid;
           kept = kept;
-          led = led_on setup r.roll.marks world after Requests r.led tt refl;
+          led = led_on setup r.roll.marks world after Requests r.led none' refl;
           words = words_above setup s.words r.front r.slots index flush (omega arith) r.words;
           mail = requested_mail setup world s.words flush inside next' fits r.mail;
           bodies = bodies_stay setup s.homes r.slots r.slots r.roll roll r.bodies (λ d. refl) (λ d. same_hand r.roll 0 d f.2);

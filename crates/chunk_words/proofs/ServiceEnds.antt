@@ -12,6 +12,7 @@ use Rattle.chunk_plain.specs.Owned.{times}
 use Rattle.chunk_plain.specs.Stored.{stored_at}
 use Rattle.chunk_plain.specs.Shows.{page_word}
 use Rattle.chunk_plain.specs.Plain.{IsLent, IsKept}
+use Rattle.chunk_plain.specs.Words.{AllArrived}
 use Rattle.chunk_plain.proofs.KeptWriter.{is_chunk, body_kept}
 use Rattle.chunk_plain.proofs.KeptService.{serviced_kept, learn_kept, reading_of, read_chunk, release_kept}
 use Rattle.chunk_schedules.specs.Moves.{Move, Learns as LearnsMove, Releases as ReleasesMove, MayMove, behind}
@@ -114,12 +115,13 @@ module _ (setup : Setup) (count id made : ℕ) (desk : Desk) where
         record { inside = inside; body = (stored_at r.slots chunk).body; new_is = refl },
       )
 
-  pub releases_allowed : (chunk mask : ℕ) (body : CommitBody) (watch : Watch) (v : ServiceView) → 0 < times chunk v.reading → vec_len body.payload ≡ (spot setup chunk).payload_size
+  pub releases_allowed : (chunk mask : ℕ) (body : CommitBody) (watch : Watch) (v : ServiceView) → 0 < times chunk v.reading → AllArrived v
+      → vec_len body.payload ≡ (spot setup chunk).payload_size
       → ((found : ℕ) → found < 2 ^ 64 → HasState found (spot setup chunk).place state.BeingRead → Releases found (bit_and found mask) (spot setup chunk).place)
       → ((found : ℕ) → KeepsOthers found (bit_and found mask) (spot setup chunk).place)
       → Allows (IsShared setup) count id (Service (hand_with chunk) made desk watch v, (chunk, Some body) ∷ []) (front_place (spot setup chunk).page) (λ found. bit_and found mask)
       (λ _. Serves (λ view. lets_go view chunk) (Service (hand_with chunk) made desk watch v, (chunk, Some body) ∷ []))
-  releases_allowed chunk mask body watch v reads size sets keep s r deep at small =
+  releases_allowed chunk mask body watch v reads all size sets keep s r deep at small =
       let at_ = spot setup chunk in let found = get_or s.words (front_place at_.page) 0 in let new = bit_and found mask in
       let world = r.world in let f = r.manned.each id (Service (hand_with chunk) made desk watch v) at in
       let reads' = subst (λ (z : ServiceView). 0 < times chunk z.reading) f.0 reads in
@@ -130,6 +132,8 @@ module _ (setup : Setup) (count id made : ℕ) (desk : Desk) where
       let deep_slots : length r.slots ≡ length setup.spots = r.kept.shown.slot_count in
       let here = body_here r.slots chunk (Some body) (omega arith) in
       let kept = body_kept setup r.front r.slots world chunk (Some body) r.laid r.kept (subst IsLent (sym was.3) tt) in
+      let taken = ((r.kept.owned.owns was.0 chunk).reading_is was.1 was.2 was.3).1 in
+      let arrived = subst AllArrived f.0 all was.0 was.1 taken in
       let view = lets_go world.service chunk in let next = served world view chunk Unclaimed in
       let small_page : page_word setup r.front chunk < 2 ^ 64 = subst (λ w. w < 2 ^ 64) is small in
       let kept' = subst (λ w. IsKept setup (set r.front at_.page (bit_and w mask)) slots next) (sym is)
@@ -149,7 +153,8 @@ module _ (setup : Setup) (count id made : ℕ) (desk : Desk) where
           roll = roll;
           laid = r.laid;
           kept = kept';
-          led = led_on setup r.roll.marks world next (ReleasesMove chunk) r.led (c_inside, was) refl;
+          led = led_on setup r.roll.marks world next (ReleasesMove chunk) r.led
+              (c_inside, record { place = was.0; position = was.1; content = was.2; reading = was.3; arrived = arrived }) refl;
           words = words_front setup s.words r.front slots at_.page new (page_front setup s r chunk inside) (front_many setup s r)
               (words_body setup s.words r.front r.slots chunk (Some body) inside deep_slots r.words);
           mail = mail_by_service setup world next (set s.words (front_place at_.page) new) refl refl
@@ -163,14 +168,14 @@ module _ (setup : Setup) (count id made : ℕ) (desk : Desk) where
       )
 
   -- the same for whatever is in the slot
-  pub releases_by : (chunk mask : ℕ) (kept : Option CommitBody) (watch : Watch) (v : ServiceView) → IsSome kept → 0 < times chunk v.reading
+  pub releases_by : (chunk mask : ℕ) (kept : Option CommitBody) (watch : Watch) (v : ServiceView) → IsSome kept → 0 < times chunk v.reading → AllArrived v
       → IfSome kept (λ body. vec_len body.payload ≡ (spot setup chunk).payload_size)
       → ((found : ℕ) → found < 2 ^ 64 → HasState found (spot setup chunk).place state.BeingRead → Releases found (bit_and found mask) (spot setup chunk).place)
       → ((found : ℕ) → KeepsOthers found (bit_and found mask) (spot setup chunk).place)
       → Allows (IsShared setup) count id (Service (hand_with chunk) made desk watch v, (chunk, kept) ∷ []) (front_place (spot setup chunk).page) (λ found. bit_and found mask)
       (λ _. Serves (λ view. lets_go view chunk) (Service (hand_with chunk) made desk watch v, (chunk, kept) ∷ []))
-  releases_by chunk mask None watch v there reads size sets keep = absurd (let no_ : false ≡ true = there in cc)
-  releases_by chunk mask (Some body) watch v there reads size sets keep = releases_allowed chunk mask body watch v reads size sets keep
+  releases_by chunk mask None watch v there reads all size sets keep = absurd (let no_ : false ≡ true = there in cc)
+  releases_by chunk mask (Some body) watch v there reads all size sets keep = releases_allowed chunk mask body watch v reads all size sets keep
 
   -- ---- notes
 

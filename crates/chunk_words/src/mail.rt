@@ -3,7 +3,7 @@
 //! before it, and how many chunks it had completed by then. Each word is stored by one seat alone.
 //! A request is noted while the reading pass is joined to the service's seat, as a read is, and the
 //! pass gives notice of requests to writers.
-ghost use Rattle.std.specs.Prelude.{◌≡◌, ◌+◌, ◌-◌, ◌/◌, ◌%◌, ◌<◌, ◌≤◌, length, take};
+ghost use Rattle.std.specs.Prelude.{◌≡◌, ◌+◌, ◌-◌, ◌/◌, ◌%◌, ◌<◌, ◌≤◌, [], length, take};
 ghost use Rattle.chunk_plain.specs.Views.{asked_in};
 ghost use Rattle.chunk_plain.specs.Histories.{completed_images};
 ghost use Rattle.chunk_plain.specs.Letters.{last_flush, knows_request, answers_with, requests, hears_answer};
@@ -68,10 +68,11 @@ impl HostTable {
         self.step_answer(seat, flush, chunks);
     }
 
-    /// The service makes the next flush request, where there is no reading pass.
+    /// The service makes the next flush request, where there is no reading pass and it reads no chunk.
     pub fn ask(&self, seat: &mut ServiceSeat, flush: u32)
         requires seat { Attends self.now seat.old }
         requires none_made { stage_of seat.old.seat.me.0 ≡ Unmade }
+        requires none_read { (service_of seat.old.seat.me.0).reading ≡ [] }
         requires next { flush ≡ asked_in (service_of seat.old.seat.me.0).letters + 1 }
         ensures view { service_of seat.new.seat.me.0 ≡ requests (service_of seat.old.seat.me.0) }
         ensures desk { desk_of seat.new.seat.me.0 ≡ desk_of seat.old.seat.me.0 }
@@ -99,11 +100,12 @@ impl HostTable {
         )
     }
 
-    /// The next request joins the view of the service, and then that of the pass is the same. What
-    /// the service noted since the pass is no read, and it made no request.
+    /// The next request joins the view of the service, which reads no chunk, and then that of the pass is
+    /// the same. What the service noted since the pass is no read, and it made no request.
     pub fn note_request(&self, seat: &mut ServiceSeat, pass: &mut ReadPass, flush: u32)
         requires seat { Attends self.now seat.old }
         requires pass { Passes self.now pass.old }
+        requires none_read { (service_of seat.old.seat.me.0).reading ≡ [] }
         requires next { flush ≡ asked_in (service_of seat.old.seat.me.0).letters + 1 }
         ensures joins { JoinsPass self.now pass.old pass.new seat.old seat.new }
         ensures seat { Attends self.now seat.new }
@@ -185,6 +187,7 @@ impl HostTable {
     fn step_request(&self, seat: &mut ServiceSeat, flush: u32)
         requires seat { CanServe self.now seat.old }
         requires none_made { stage_of seat.old.seat.me.0 ≡ Unmade }
+        requires none_read { (service_of seat.old.seat.me.0).reading ≡ [] }
         requires next { flush ≡ asked_in (service_of seat.old.seat.me.0).letters + 1 }
         ensures { ServiceLeaves seat.old seat.new (Serves (λ view. requests view)) }
     {
@@ -202,6 +205,7 @@ impl HostTable {
     fn step_note_request(&self, seat: &mut ServiceSeat, flush: u32)
         requires seat { CanServe self.now seat.old }
         requires here { stage_of seat.old.seat.me.0 ≡ Here (staged (stage_of seat.old.seat.me.0)) }
+        requires none_read { (service_of seat.old.seat.me.0).reading ≡ [] }
         requires next { flush ≡ asked_in (service_of seat.old.seat.me.0).letters + 1 }
         ensures { ServiceLeaves seat.old seat.new NotesRequest }
     {

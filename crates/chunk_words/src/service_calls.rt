@@ -6,7 +6,7 @@ ghost use Rattle.chunk_plain.specs.Setup.{spot, from_of};
 ghost use Rattle.chunk_plain.specs.Views.{taken_of};
 ghost use Rattle.chunk_plain.specs.Owned.{times};
 ghost use Rattle.chunk_plain.specs.Steps.{looks_at, takes_in, learns, lets_go, notes, notes_commit};
-ghost use Rattle.chunk_plain.specs.Words.{IsServing, LooksAt, TakesChunk, FindsOther, IsReadEvent, event_of, committed_of};
+ghost use Rattle.chunk_plain.specs.Words.{IsServing, AllArrived, LooksAt, TakesChunk, FindsOther, IsReadEvent, event_of, committed_of};
 ghost use Rattle.page_geometry.specs.Header.{packed};
 ghost use Rattle.page_geometry.specs.declared.chunk_state.ChunkState.TheVariants.{Complete};
 ghost use Rattle.chunk_plain.specs.Payload.{byte_of, byte_in};
@@ -172,10 +172,12 @@ impl HostTable {
         body
     }
 
-    /// The body goes back into its slot, and then the chunk is free.
+    /// The body goes back into its slot, and then the chunk is free. The arrival of all that was taken is
+    /// noted before.
     pub fn release(&self, seat: &mut ServiceSeat, taken: Taken)
         requires seat { Attends self.now seat.old }
         requires reading { 0 < times taken.chunk (service_of seat.old.seat.me.0).reading }
+        requires arrived { AllArrived (service_of seat.old.seat.me.0) }
         requires size { vec_len taken.body.payload ≡ (spot self.now.layout taken.chunk).payload_size }
         ensures view { service_of seat.new.seat.me.0 ≡ lets_go (service_of seat.old.seat.me.0) taken.chunk }
         ensures desk { desk_of seat.new.seat.me.0 ≡ desk_of seat.old.seat.me.0 }

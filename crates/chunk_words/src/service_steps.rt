@@ -7,7 +7,7 @@ ghost use Rattle.chunk_plain.specs.Setup.{spot};
 ghost use Rattle.chunk_plain.specs.Views.{taken_of};
 ghost use Rattle.chunk_plain.specs.Owned.{times};
 ghost use Rattle.chunk_plain.specs.Steps.{learns, lets_go, notes, notes_commit};
-ghost use Rattle.chunk_plain.specs.Words.{IsReadEvent, event_of, committed_of};
+ghost use Rattle.chunk_plain.specs.Words.{AllArrived, IsReadEvent, event_of, committed_of};
 ghost use Rattle.chunk_words.specs.Knows.{Peeked, Known, Lifted, Unmade, desk_of, stage_of, watch_of, service_of};
 ghost use Rattle.chunk_words.specs.Moves.{watched, body_in, Peeks, Looks, ReadsHeader, Misses, Serves, Takes, Loads, Lifts, WatchesNext};
 ghost use Rattle.chunk_words.specs.Places.{payload_start, payload_words};
@@ -211,6 +211,7 @@ impl HostTable {
         requires seat { seat.old.seat.table_id ≡ self.now.table.shared.table_id }
         requires chunk { chunk < length self.now.layout.spots }
         requires reading { 0 < times chunk (service_of seat.old.seat.me.0).reading }
+        requires arrived { AllArrived (service_of seat.old.seat.me.0) }
         requires body { IsSome (body_in seat.old.seat.me.1) }
         requires size { IfSome (body_in seat.old.seat.me.1) (λ body. vec_len body.payload ≡ (spot self.now.layout chunk).payload_size) }
         requires out { HasLifted chunk (body_in seat.old.seat.me.1) seat.old.seat.me }

@@ -1,9 +1,16 @@
-use Rattle.std.proofs.Common.{◌∙◌, [], ap, subst}
+use Rattle.std.proofs.Common.{◌∙◌, [], ap, sym, subst}
 use Rattle.chunk_plain.specs.Steps.{lets_go}
+use Rattle.chunk_plain.specs.Words.{AllArrived}
 use Rattle.chunk_words.specs.Knows.{Knows, Nothing, service_of, by_service}
 use Rattle.chunk_words.specs.Moves.{Mine, IsSeen}
 use Rattle.chunk_words.proofs.Rests.{attends_now}
 use Rattle.chunk_words.proofs.host.HostTable.release.Goals as goal
+
+-- to take the slot and put the body back is no note
+pub step_release-requires-clause-arrived : goal.step_release-requires-clause-arrived
+step_release-requires-clause-arrived c =
+    let known = ap (λ (m : Mine). m.0) c.body_in.ensures.me ∙ ap (λ (m : Mine). m.0) c.step_lift.ensures.me.new_is in
+    subst (λ (k : Knows). AllArrived (service_of k)) (sym known) c.requires.arrived
 
 pub returns-clause-seat : goal.returns-clause-seat
 returns-clause-seat c =

@@ -7,4 +7,4 @@ pub make_store-requires-clause-allowed : goal.make_store-requires-clause-allowed
 make_store-requires-clause-allowed c =
     let self = c.args.self.now in let seat = c.args.seat.now.seat in let k = seat.me.0 in
     rw (self.key, self.request_is, c.requires.seat.idle)
-    (request_noted self.layout _ seat.id (made_of k) (desk_of k) (watch_of k) (service_of k) (staged (stage_of k)) c.requires.here c.args.flush c.requires.next (omega arith))
+    (request_noted self.layout _ seat.id (made_of k) (desk_of k) (watch_of k) (service_of k) (staged (stage_of k)) c.requires.here c.args.flush c.requires.none_read c.requires.next (omega arith))

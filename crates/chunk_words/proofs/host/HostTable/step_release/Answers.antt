@@ -11,6 +11,6 @@ pub make_and-requires-clause-allowed : goal.make_and-requires-clause-allowed
 make_and-requires-clause-allowed c =
     let self = c.args.self.now in let seat = c.args.seat.now.seat in let k = seat.me.0 in let mask = c.release_mask.result in
     rw (self.key, c.page_index.ensures.here, c.spot-spot.ensures.spot, c.requires.out)
-    (releases_by self.layout _ seat.id (made_of k) (desk_of k) c.args.chunk mask (body_in seat.me.1) (watch_of k) (service_of k) c.requires.body c.requires.reading c.requires.size
+    (releases_by self.layout _ seat.id (made_of k) (desk_of k) c.args.chunk mask (body_in seat.me.1) (watch_of k) (service_of k) c.requires.body c.requires.reading c.requires.arrived c.requires.size
     (subst (λ (s : Spot). (found : _) → found < 2 ^ 64 → HasState found s.place BeingRead → Releases found (bit_and found mask) s.place) c.spot-spot.ensures.spot c.release_mask.ensures.step)
     (subst (λ (s : Spot). (found : _) → KeepsOthers found (bit_and found mask) s.place) c.spot-spot.ensures.spot c.release_mask.ensures.others))
