@@ -16,9 +16,10 @@ use Rattle.chunk_plain.specs.Setup.{Setup}
 use Rattle.chunk_plain.specs.Views.{Content, Look, Taken, Noted, Arrive, ServiceView, taken_of}
 use Rattle.chunk_plain.specs.World.{World}
 use Rattle.chunk_plain.specs.Steps.{taken_counts, serviced}
-use Rattle.chunk_plain.specs.Words.{LooksAt}
+use Rattle.chunk_plain.specs.Words.{AllArrived, LooksAt}
 use Rattle.chunk_plain.specs.Meaning.{Meaning, IsServiceStep}
 use Rattle.chunk_plain.proofs.SeatSteps.{serves_on, services_follow}
+use Rattle.chunk_plain.proofs.ArrivedLemmas.{all_arrived, arrived_on, others_arrived}
 use Rattle.chunk_plain.specs.Histories.{content_at, once_read, arrival_of, patches_of, happened, history_of}
 use Rattle.trace_buffer.specs.declared.answers.BufferSpec.{BufferSpec}
 use Rattle.world_model.specs.FirstBuffers as first
@@ -28,7 +29,7 @@ use Rattle.service_core.specs.Routing.{arrivals_of, is_closed_at}
 use Rattle.service_core.specs.Order.{Stage, LeadTo, beginning}
 use Rattle.world_model.specs.Accounts.{NoneCommitted}
 use Rattle.service_core.specs.Agreement.{IsRouted, AreKnownNotes, buffer_of, ServiceAgrees, KeepsFields, KeepsRest, KeepsTaking, is_closed, first_of, spec_value}
-use Rattle.service_core.specs.Calls.{ServesAt, ServesWriter, ServesOn, NotesOn}
+use Rattle.service_core.specs.Calls.{ServesAt, ServesWriter, ServesOn, NotesAlone, NotesOn}
 use Rattle.service_core.specs.Looking.{looked}
 use Rattle.service_core.specs.Taking.{patched_where, takings, taken_more, took}
 use Rattle.service_core.proofs.HistoryLemmas.{Grows, all_known_grow, known_append, history_stays}
@@ -117,11 +118,11 @@ order_there old new place notes was is grows known events_are counted closed mor
 pub agrees_grown : {S : Type 0} → (setup : Setup) (old new : ServiceView) (core done : ServiceCore S) (notes : List Noted)
     → ServiceAgrees setup old core → KeepsFields core done → Grows old new → new.events ≡ old.events ++ notes → new.reading ≡ old.reading
     → length new.taken ≡ length old.taken → done.taken.items ≡ taken_counts new
-    → done.buffers.items ≡ buffers_after core.buffers.items (flat_map (happened new) notes) → AreKnownNotes new notes
+    → done.buffers.items ≡ buffers_after core.buffers.items (flat_map (happened new) notes) → AllArrived new → AreKnownNotes new notes
     → ((place : ℕ) → place < length setup.writers → NoneCommitted new (place + 2)
     → LeadTo new (place + 2) beginning new.events (record { come = (taken_of new place).count; closed = is_closed setup done place; due = [] }))
     → ServiceAgrees setup new done
-agrees_grown setup old new core done notes agrees keeps grows events_are reading_is many taken_is buffers_are known order =
+agrees_grown setup old new core done notes agrees keeps grows events_are reading_is many taken_is buffers_are arrived known order =
     let first : List Buffer = first_of setup core in
     record {
       layout = keeps.layout ∙ agrees.layout;
@@ -138,9 +139,25 @@ agrees_grown setup old new core done notes agrees keeps grows events_are reading
           ∙ ap (λ (bs : List Buffer). buffers_after bs (history_of new)) (sym (first_stays setup core done keeps));
       session = ap (λ (s : SessionValue). s.writers) keeps.session ∙ agrees.session;
       none_read = reading_is ∙ agrees.none_read;
+      arrived = arrived;
       known = subst (AreKnownNotes new) (sym events_are) (known_append new old.events notes (all_known_grow old new old.events grows agrees.known) known);
       order = order;
     }
+
+-- behind notes all has arrived still
+pub arrived_behind : {T W S : Type 0} {means : Meaning T W S} {notes : List Noted} {table left : T} {seat after : S}
+    → NotesAlone means notes table seat left after → AllArrived (means.service_view table seat) → AllArrived (means.service_view left after)
+arrived_behind {means = means} {notes = notes} {table = table} {seat = seat} noted all =
+    subst AllArrived (sym noted.view) (arrived_on (means.service_view table seat) notes all)
+
+-- what is taken arrives
+took_arrives : (old : ServiceView) (place : ℕ) (looks : List Look) (content : Content) → place < length old.taken → AllArrived old
+    → AllArrived (took old place looks (content ∷ []))
+took_arrives old place looks content inside all =
+    let mid : ServiceView = record old { looks = old.looks ++ looks; taken = set old.taken place (taken_more (taken_of old place) (content ∷ [])) } in
+    all_arrived mid place (taken_of old place).count (patched_where content.patches (place + 2) (taken_of old place).count ++ [])
+    (others_arrived old mid place refl (ap (λ (t : Taken). t.count) (taken_here old place looks (content ∷ []) inside))
+    (λ other differs. ap (λ (t : Taken). t.count) (taken_other old place other looks (content ∷ []) differs)) all)
 
 pub agrees_took : {S : Type 0} → (setup : Setup) (old : ServiceView) (core done : ServiceCore S) (place : ℕ) (looks : List Look) (content : Content)
     → ServiceAgrees setup old core → KeepsFields core done → place < length old.taken → is_closed setup core place ≡ false
@@ -158,6 +175,7 @@ agrees_took setup old core done place looks content agrees keeps inside open_her
     (taken_is ∙ ap (λ (counts : List ℕ). set counts place (position + 1)) agrees.taken
     ∙ sym (map-set (λ (t : Taken). t.count) old.taken place (taken_more (taken_of old place) (content ∷ []))))
     (buffers_are ∙ sym (one_taken new (place + 2) position content core.buffers.items there sequence_is position_is))
+    (took_arrives old place looks content inside agrees.arrived)
     (one_known new (place + 2) position content there)
     (λ p inside_p none. by_place p inside_p none (cases_eq p place))
   where
@@ -189,7 +207,7 @@ agrees_seen setup old new core seat chunk word header looks agrees =
     let grows = looked_grows old looks_more in
     subst (λ (v : ServiceView). ServiceAgrees setup v (record core { seat = seat })) (sym looks.view)
     (agrees_grown setup old seen core (record core { seat = seat }) [] agrees (record { layout = refl; specs = refl; writers = refl; session = refl }) grows
-    (sym (append-nil old.events)) refl refl agrees.taken (sym (buffers_none core.buffers.items)) tt
+    (sym (append-nil old.events)) refl refl agrees.taken (sym (buffers_none core.buffers.items)) agrees.arrived tt
     (λ p inside_p none.
     order_there old seen p [] (is_closed setup core p) (is_closed setup core p) grows agrees.known (sym (append-nil old.events)) refl refl refl (agrees.order p inside_p none)))
 
@@ -275,6 +293,7 @@ agrees_kept setup view core done keeps agrees = record {
       ∙ ap (λ (specs : List BufferSpec). buffers_after (first.first_buffers setup 1 (map spec_value specs)) (history_of view)) (sym keeps.specs);
   session = keeps.session ∙ agrees.session;
   none_read = agrees.none_read;
+  arrived = agrees.arrived;
   known = agrees.known;
   order = λ place inside none.
       subst (λ (b : Bool). LeadTo view (place + 2) beginning view.events (record { come = (taken_of view place).count; closed = b; due = [] }))

@@ -15,6 +15,7 @@ use Rattle.chunk_plain.specs.Setup.{Setup, producer_of}
 use Rattle.chunk_plain.specs.Views.{Noted, Closed, Commit, Committed, ServiceView, taken_of}
 use Rattle.chunk_plain.specs.Steps.{notes_commit}
 use Rattle.chunk_plain.specs.Histories.{commit_of, happened}
+use Rattle.chunk_plain.proofs.ArrivedLemmas.{arrived_on}
 use Rattle.service_core.specs.declared.service.ServiceCore.{ServiceCore}
 use Rattle.service_core.specs.Routing.{buffer_at, is_closed_at}
 use Rattle.world_model.specs.Accounts.{NoneCommitted}
@@ -42,7 +43,8 @@ pub agrees_noted : {S : Type 0} → (setup : Setup) (old : ServiceView) (core do
 agrees_noted setup old core done notes agrees keeps buffers_are taken_is known leads =
     let new : ServiceView = noted_more old notes in
     let grows = noted_grows old notes in
-    agrees_grown setup old new core done notes agrees keeps grows refl refl refl (taken_is ∙ agrees.taken) buffers_are known
+    agrees_grown setup old new core done notes agrees keeps grows refl refl refl (taken_is ∙ agrees.taken) buffers_are
+    (arrived_on old notes agrees.arrived) known
     (λ place inside none.
     lead_both new (place + 2) beginning (record { come = (taken_of old place).count; closed = is_closed setup core place; due = [] })
     (record { come = (taken_of old place).count; closed = is_closed setup done place; due = [] }) old.events notes
@@ -145,7 +147,8 @@ agrees_committed setup old core done committed agrees keeps buffers_are taken_is
     let notes : List Noted = Commit (length old.commits) ∷ [] in
     let event : flat_map (happened new) notes ≡ model.Committed committed.image committed.patches ∷ [] = ap (λ o. commit_of o ++ []) (get_seam old.commits [] committed) in
     agrees_grown setup old new core done notes agrees keeps grows refl refl refl (taken_is ∙ agrees.taken)
-    (buffers_are ∙ ap (λ (es : List model.Event). buffers_after core.buffers.items es) (sym event)) ((committed, get_seam old.commits [] committed), tt)
+    (buffers_are ∙ ap (λ (es : List model.Event). buffers_after core.buffers.items es) (sym event)) (arrived_on old notes agrees.arrived)
+    ((committed, get_seam old.commits [] committed), tt)
     (λ place inside none.
     order_there old new place notes (is_closed setup core place) (is_closed setup done place) grows agrees.known refl refl
     (sym (closed_by_none setup old core done place (model.Committed committed.image committed.patches ∷ []) agrees buffers_are (refl, tt) inside))

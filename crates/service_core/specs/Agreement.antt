@@ -9,6 +9,7 @@ use Rattle.chunk_plain.specs.Setup.{Setup, HasProducer, producer_of, sequence_of
 use Rattle.chunk_plain.specs.Steps.{taken_counts}
 use Rattle.chunk_plain.specs.Views.{Content, Found, Noted, Arrive, Partial, Patched, Closed, Read, Commit, Committed, ServiceView, taken_of}
 use Rattle.chunk_plain.specs.Histories.{history_of, content_at, found_among}
+use Rattle.chunk_plain.specs.Words.{AllArrived}
 use Rattle.trace_buffer.specs.declared.answers.BufferSpec.{BufferSpec}
 use Rattle.session_core.specs.Sessions.{HasAnswered, answer_at}
 use Rattle.world_model.specs.Accounts.{NoneCommitted}
@@ -59,7 +60,8 @@ AreKnownNotes view (note ∷ notes) = IsKnownNote view note × AreKnownNotes vie
 abbrev pub is_closed : {S : Type 0} → Setup → ServiceCore S → ℕ → Bool
 is_closed setup core place = is_closed_at core.buffers.items (buffer_of setup place - 1) (sequence_of place)
 
--- Between two calls: the service has the table's set-up, has taken what its view says, and its buffers are the fold of the history.
+-- Between two calls: the service has the table's set-up, has taken what its view says, the arrival of all of it is noted, and its buffers are
+-- the fold of the history.
 pub record ServiceAgrees {S : Type 0} (setup : Setup) (view : ServiceView) (core : ServiceCore S) : Type 0 where
   pub layout : core.layout ≡ setup
   pub writers : core.writers.items ≡ setup.writers
@@ -69,6 +71,7 @@ pub record ServiceAgrees {S : Type 0} (setup : Setup) (view : ServiceView) (core
   pub buffers : core.buffers.items ≡ buffers_after (first_of setup core) (history_of view)
   pub session : core.session.writers ≡ length setup.writers
   pub none_read : view.reading ≡ []
+  pub arrived : AllArrived view
   pub known : AreKnownNotes view view.events
   -- the notes on each sequence are in order, where nothing of it came by a commit
   pub order : (place : ℕ) → place < length setup.writers → NoneCommitted view (sequence_of place)

@@ -6,7 +6,7 @@ ghost use Rattle.chunk_plain.specs.Setup.{range_of, producer_of, IsChunkOf, sequ
 ghost use Rattle.chunk_plain.specs.Views.{taken_of};
 ghost use Rattle.chunk_plain.specs.World.{World, Unclaimed};
 ghost use Rattle.chunk_plain.specs.Steps.{lets_go, served};
-ghost use Rattle.chunk_plain.specs.Words.{taken_content};
+ghost use Rattle.chunk_plain.specs.Words.{taken_content, OthersArrived};
 ghost use Rattle.chunk_plain.specs.Meaning.{IsServiceStep};
 ghost use Rattle.service_core.specs.Agreement.{IsOpen};
 ghost use Rattle.service_core.specs.Taking.{patched_where, takings, noted_more, IsRange, TakesOf, Takes, places_of, TakenFor, HasRoute, PutsIn};
@@ -46,7 +46,7 @@ fn note_patches<W: Words>(
 
 impl<S> ServiceCore<S> {
     /// Puts a chunk that was taken as the one at this position into its writer's buffer, notes that,
-    /// and gives the chunk back.
+    /// and at last gives the chunk back: behind that a writer may have it.
     fn take_in<W: Words<Service = S>>(
         &mut self,
         table: &mut W,
@@ -55,6 +55,7 @@ impl<S> ServiceCore<S> {
         taken: Taken,
     )
         requires taken { TakenFor W.means table.old self.old.seat place position taken }
+        requires arrived { OthersArrived (W.means.service_view table.old self.old.seat) place position }
         requires route { HasRoute (W.means.setup table.old) self.old place (vec_len taken.body.payload) }
         ensures puts { PutsIn (W.means.setup table.old) place position taken self.old self.new }
         ensures view { W.means.service_view table.new self.new.seat

@@ -36,6 +36,7 @@ returns g c = record {
         buffers = c.in_ok-made.ensures ∙ sym none ∙ ap (λ (xs : List BufferSpec). buffers_after (first_buffers setup 1 (map spec_value xs)) (flat_map (happened view) view.events)) (sym specs);
         session = search rules;
         none_read = unused.none_read;
+        arrived = λ place position low. absurd (let none = unused.none_taken place in omega (arith, low, none));
         known = subst (AreKnownNotes view) (sym unused.none_noted) tt;
         order = λ place inside none_of.
             let long = length-map c.args.buffers.now spec_value in

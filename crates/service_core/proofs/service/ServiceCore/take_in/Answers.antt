@@ -10,6 +10,9 @@ use Rattle.trace_model.specs.History.{buffers_after}
 use Rattle.chunk_image.specs.Values.{image_value}
 use Rattle.service_core.specs.Routing.{IsAt, from_at, arrivals_of}
 use Rattle.service_core.specs.Agreement.{spec_at}
+use Rattle.chunk_plain.specs.Words.{AllArrived}
+use Rattle.chunk_plain.proofs.ArrivedLemmas.{all_arrived}
+use Rattle.service_core.proofs.AgreeLemmas.{arrived_behind}
 use Rattle.service_core.proofs.RouteLemmas.{is_at_after, arrives_placed}
 use Rattle.service_core.proofs.service.ServiceCore.take_in.Goals as goal
 use Rattle.chunk_plain.specs.Setup.{no_writer, from_of}
@@ -27,6 +30,13 @@ patch_in-requires g c =
     let image : Image = image_value (record { sequence = c.args.place + 2; chunk_id = c.args.taken.header.chunk_id; count = c.args.taken.header.count; flags = c.args.taken.header.flags; payload = c.deref.result }) in
     let events = arrivals_of (placed_image (from_at bs (c.from-index.result - 1) (c.args.place + 2)) image) in
     (size, subst (λ (xs : List Buffer). IsAt xs (c.from-index.result - 1) (c.args.place + 2) size) (sym after) (is_at_after bs (c.from-index.result - 1) (c.args.place + 2) size events at))
+
+-- its arrival is noted, and then its patches
+pub release-requires-clause-arrived : goal.release-requires-clause-arrived
+release-requires-clause-arrived g c =
+    let view = g.W.Words.means.service_view c.args.table.now c.args.self.now.seat in
+    arrived_behind c.note_patches.ensures
+    (subst AllArrived (sym c.note.ensures.view) (all_arrived view c.args.place c.args.position [] c.requires.arrived))
 
 pub returns-clause-puts : goal.returns-clause-puts
 returns-clause-puts g c =
