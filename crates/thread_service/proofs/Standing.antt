@@ -77,6 +77,7 @@ agrees_seat setup old new core seat same agrees = subst (λ (v : ServiceView). S
   buffers = agrees.buffers;
   session = agrees.session;
   none_read = agrees.none_read;
+  arrived = agrees.arrived;
   known = agrees.known;
   order = agrees.order;
 })
@@ -112,6 +113,7 @@ module _ (view : ServiceView) (letters : List Letter) where
     buffers = agrees.buffers ∙ ap (λ (events : List model.Event). buffers_after (first_of setup core) events) (sym (history_letters agrees.known));
     session = agrees.session;
     none_read = agrees.none_read;
+    arrived = agrees.arrived;
     known = known_letters agrees.known;
     order = λ place inside none. lead_grows view other (sequence_of place) beginning _ view.events grows_letters agrees.known (agrees.order place inside none);
   }

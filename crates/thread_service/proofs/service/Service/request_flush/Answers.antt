@@ -1,4 +1,4 @@
-use Rattle.std.proofs.Common.{◌∙◌, [], ◌∷◌, ◌++◌, ◌+◌, sym, ap, subst}
+use Rattle.std.proofs.Common.{◌∙◌, [], ◌∷◌, ◌++◌, ◌+◌, length, sym, ap, subst}
 use Rattle.chunk_plain.specs.Views.{Asked, ServiceView, asked_in}
 use Rattle.chunk_words.specs.Sits.{setup_in, known_by_service}
 use Rattle.chunk_words.proofs.MailSteps.{asked_more}
@@ -6,6 +6,10 @@ use Rattle.service_core.specs.Agreement.{ServiceAgrees}
 use Rattle.thread_service.specs.Serving.{core_of}
 use Rattle.thread_service.proofs.Standing.{agrees_letters, answered_requests}
 use Rattle.thread_service.proofs.service.Service.request_flush.Goals as goal
+
+-- the session's own call leaves the service as it agreed, reading no chunk
+pub ask-requires-clause-none_read : goal.ask-requires-clause-none_read
+ask-requires-clause-none_read c = c.request_flush.ensures.agrees.none_read
 
 pub returns-clause-serves : goal.returns-clause-serves
 returns-clause-serves c =
@@ -20,6 +24,6 @@ returns-clause-serves c =
     record {
       attends = c.ask.ensures.seat;
       agrees = subst (λ (v : ServiceView). ServiceAgrees setup v (record core { seat = c.ask.new.seat })) (sym view)
-          (agrees_letters old (old.letters ++ Asked ∷ []) setup core c.ask.new.seat agrees);
-      asked = asked ∙ sym (asked_more old.letters) ∙ sym (ap (λ (v : ServiceView). asked_in v.letters) view);
+          (agrees_letters old (old.letters ++ Asked (length old.events) ∷ []) setup core c.ask.new.seat agrees);
+      asked = asked ∙ sym (asked_more old.letters (length old.events)) ∙ sym (ap (λ (v : ServiceView). asked_in v.letters) view);
     }

@@ -1,4 +1,4 @@
-use Rattle.std.proofs.Common.{◌≡◌, ◌∙◌, [], ◌∷◌, ◌++◌, ◌+◌, sym, ap, subst, rules}
+use Rattle.std.proofs.Common.{◌≡◌, ◌∙◌, [], ◌∷◌, ◌++◌, ◌+◌, length, sym, ap, subst, rules}
 use Rattle.chunk_plain.specs.Histories.{history_of}
 use Rattle.chunk_plain.specs.Views.{Asked, ServiceView, asked_in}
 use Rattle.chunk_words.specs.Sits.{setup_in, known_by_pass, known_by_service}
@@ -23,6 +23,10 @@ returns-in_err-flush-clause-passes c =
           (ap history_of c.compare.ensures.known);
     }
 
+-- the session's own call leaves the service as it agreed, reading no chunk
+pub note_request-requires-clause-none_read : goal.note_request-requires-clause-none_read
+note_request-requires-clause-none_read c = c.request_flush.ensures.agrees.none_read
+
 -- behind the session's own call the service agrees with the view of its seat, which is as it was
 agrees_then : (c : goal.After-note_request) → ServiceAgrees (setup_in c.args.table.now) (known_by_service c.request_flush.new.self.seat) c.request_flush.new.self
 agrees_then c = let core = c.request_flush.new.self in
@@ -42,14 +46,14 @@ returns-clause-serves c =
     let core = c.request_flush.new.self in
     let old = known_by_service core.seat in
     let setup = setup_in c.args.table.now in
-    let letters = old.letters ++ Asked ∷ [] in
+    let letters = old.letters ++ Asked (length old.events) ∷ [] in
     let view = c.note_request.ensures.view in
     record {
       serves = record {
         attends = c.note_request.ensures.seat;
         agrees = subst (λ (v : ServiceView). ServiceAgrees setup v (record core { seat = c.note_request.new.seat })) (sym view)
             (agrees_letters old letters setup core c.note_request.new.seat (agrees_then c));
-        asked = asked_then c ∙ sym (asked_more old.letters) ∙ sym (ap (λ (v : ServiceView). asked_in v.letters) view);
+        asked = asked_then c ∙ sym (asked_more old.letters (length old.events)) ∙ sym (ap (λ (v : ServiceView). asked_in v.letters) view);
       };
       passes = c.note_request.ensures.joins.passes;
       known = subst IsKnownWhole (sym (c.note_request.ensures.known ∙ view)) (known_letters old letters (agrees_then c).known);
@@ -64,5 +68,5 @@ returns-clause-passes c =
       knows = search rules;
       passes = passes_request (setup_in c.args.table.now) (core_of c.args.self.now) (known_by_pass c.args.pass.now) (view_in c.args.self.now) (known_by_pass c.note_request.new.pass)
           c.requires.serves.known c.compare.ensures.joins.goes_on
-          (ap history_of (c.note_request.ensures.known ∙ c.note_request.ensures.view) ∙ history_letters old (old.letters ++ Asked ∷ []) (agrees_then c).known ∙ ap history_of (view_then c));
+          (ap history_of (c.note_request.ensures.known ∙ c.note_request.ensures.view) ∙ history_letters old (old.letters ++ Asked (length old.events) ∷ []) (agrees_then c).known ∙ ap history_of (view_then c));
     }
