@@ -12,7 +12,7 @@ use Rattle.chunk_plain.specs.declared.tokens.Taken.{Taken as TakenToken}
 use Rattle.chunk_plain.specs.Setup.{Setup, sequence_of}
 use Rattle.chunk_plain.specs.Views.{Content, Taken, none_taken, Noted, Arrive, ServiceView, taken_of}
 use Rattle.chunk_plain.specs.Steps.{looks_at, takes_in, learns}
-use Rattle.chunk_plain.specs.Words.{is_arrival_note, is_arrival_noted, AllArrived, OthersArrived, taken_content, TakesChunk}
+use Rattle.chunk_plain.specs.Words.{is_arrival_note, is_arrival_noted, AllArrived, OthersArrived, LacksArrival, taken_content, TakesChunk}
 
 -- what has arrived has so behind more notes
 pub arrival_stays : (sequence position : ℕ) (notes more : List Noted) → is_arrival_noted sequence position notes ≡ true
@@ -64,26 +64,31 @@ others_arrived old new place events count counts all other number low =
     (all other number (let same = counts other differs in omega (arith, low, same)))))
 
 -- so it is behind the steps by which the service takes a chunk
-pub next_arrives : (old : ServiceView) (place chunk word header : ℕ) (content : Content) → place < length old.taken → AllArrived old
-    → OthersArrived (learns (takes_in (looks_at old chunk word header None) place chunk) place content) place (taken_of old place).count
-next_arrives old place chunk word header content inside all =
+next_lacks : (old : ServiceView) (place chunk word header : ℕ) (content : Content) → place < length old.taken → AllArrived old
+    → LacksArrival (learns (takes_in (looks_at old chunk word header None) place chunk) place content) place (taken_of old place).count
+next_lacks old place chunk word header content inside all =
     let counted : Taken = record (taken_of old place) { count = (taken_of old place).count + 1 } in
     let mid : List Taken = set old.taken place counted in
     let between : ServiceView = takes_in (looks_at old chunk word header None) place chunk in
     let learnt : Taken = record (taken_of between place) { contents = (taken_of between place).contents ++ content ∷ [] } in
     let within : place < length mid = let long = length-set old.taken place counted in omega (arith, long, inside) in
-    others_arrived old (learns between place content) place refl
-    (ap (λ (t : Taken). t.count) (get_or-set_same mid place learnt none_taken within)
-    ∙ ap (λ (t : Taken). t.count) (get_or-set_same old.taken place counted none_taken inside))
-    (λ other differs. ap (λ (t : Taken). t.count) (get_or-set_other mid place other learnt none_taken differs)
-    ∙ ap (λ (t : Taken). t.count) (get_or-set_other old.taken place other counted none_taken differs))
-    all
+    let new : ServiceView = learns between place content in
+    let count : (taken_of new place).count ≡ (taken_of old place).count + 1 =
+    ap (λ (t : Taken). t.count) (get_or-set_same mid place learnt none_taken within)
+    ∙ ap (λ (t : Taken). t.count) (get_or-set_same old.taken place counted none_taken inside) in
+    record {
+      taken = omega (arith, count);
+      others = others_arrived old new place refl count
+          (λ other differs. ap (λ (t : Taken). t.count) (get_or-set_other mid place other learnt none_taken differs)
+          ∙ ap (λ (t : Taken). t.count) (get_or-set_other old.taken place other counted none_taken differs))
+          all;
+    }
 
 -- and behind a call that took it
-pub takes_arrive : (setup : Setup) (old new : ServiceView) (chunk writer id : ℕ) (taken : TakenToken)
+pub takes_lacks : (setup : Setup) (old new : ServiceView) (chunk writer id : ℕ) (taken : TakenToken)
     → TakesChunk setup chunk writer id taken old new → writer - 1 < length old.taken → AllArrived old
-    → OthersArrived new (writer - 1) (taken_of old (writer - 1)).count
-takes_arrive setup old new chunk writer id taken takes inside all =
+    → LacksArrival new (writer - 1) (taken_of old (writer - 1)).count
+takes_lacks setup old new chunk writer id taken takes inside all =
     let content : Content = taken_content setup (writer - 1) (taken_of old (writer - 1)).count taken in
-    subst (λ (view : ServiceView). OthersArrived view (writer - 1) (taken_of old (writer - 1)).count) (sym takes.view)
-    (next_arrives old (writer - 1) chunk takes.word (packed taken.header) content inside all)
+    subst (λ (view : ServiceView). LacksArrival view (writer - 1) (taken_of old (writer - 1)).count) (sym takes.view)
+    (next_lacks old (writer - 1) chunk takes.word (packed taken.header) content inside all)

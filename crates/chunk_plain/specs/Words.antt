@@ -2,7 +2,7 @@
 use Rattle.std.specs.Prelude.{◌≡◌, ℕ, ◌+◌, ◌-◌, ◌*◌, ◌/◌, ◌%◌, ◌^◌, ◌<◌, ◌≤◌, ◌≢◌, ◌==◌, ◌&&◌, ◌⊎◌, Bool, true, false, Option, Some, None, List, [], length, map, vec_len, slice_index_or, if◌then◌else◌}
 use Rattle.std.specs.Int.{bit_at}
 use Rattle.std.specs.List.{list_any}
-use Rattle.trace_base.specs.declared.limits.TheConstants.{MAX_FRAGMENTS}
+use Rattle.trace_base.specs.declared.limits.TheConstants.{FIRST_SEQUENCE, MAX_FRAGMENTS}
 use Rattle.page_geometry.specs.declared.chunk_header.TheConstants.{MAX_FLAGS}
 use Rattle.page_geometry.specs.declared.page_word.TheConstants.{CLAIM_BIT}
 use Rattle.page_geometry.specs.declared.chunk_header.ChunkHeader.{ChunkHeader}
@@ -68,6 +68,16 @@ AllArrived view =
 abbrev pub OthersArrived : ServiceView → (place position : ℕ) → Type 0
 OthersArrived view place position = (other number : ℕ) → number < (taken_of view other).count
     → (is_arrival_noted (sequence_of other) number view.events ≡ true) ⊎ ((other ≡ place) × (number ≡ position))
+
+-- that one was taken, and all else that was taken has arrived
+pub record LacksArrival (view : ServiceView) (place position : ℕ) : Type 0 where
+  pub taken : position < (taken_of view place).count
+  pub others : OthersArrived view place position
+
+-- that a chunk arrived may be noted once it was taken, and any other event always
+abbrev pub MayNote : ServiceView → Noted → Type 0
+MayNote view (Arrive sequence position) = position < (taken_of view (sequence - FIRST_SEQUENCE)).count
+MayNote view note = Unit {0}
 
 -- Once the content of a position is in the view, what a look found of it are its first fragments, and it has at least as many as were
 -- counted then.

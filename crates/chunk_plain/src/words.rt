@@ -12,7 +12,7 @@ ghost use Rattle.chunk_plain.specs.Owned.{times, held_count, IsOwned};
 ghost use Rattle.chunk_plain.specs.Drafts.{draft_at, ends_by, IsHolding};
 ghost use Rattle.chunk_plain.specs.Shows.{ShowsPage, ShowsHeader, ShowsPayload};
 ghost use Rattle.chunk_plain.specs.Meaning.{Meaning, IsWriterStep, IsServiceStep};
-ghost use Rattle.chunk_plain.specs.Words.{IsAtRest, IsServing, LearntAsFound, LooksAgree, TriesClaim, WasHad, IsBegun, BeginsChunk, IsPublished, PublishesBytes, completed_content, LooksAt, taken_content, TakesChunk, FindsOther, call_of, event_of, IsReadEvent, committed_of, AllArrived};
+ghost use Rattle.chunk_plain.specs.Words.{IsAtRest, IsServing, LearntAsFound, LooksAgree, TriesClaim, WasHad, IsBegun, BeginsChunk, IsPublished, PublishesBytes, completed_content, LooksAt, taken_content, TakesChunk, FindsOther, call_of, event_of, IsReadEvent, committed_of, AllArrived, MayNote};
 ghost use Rattle.chunk_plain.specs.Calls.{MayBegin, MayGetHead, MayPublishRange, AsksForNext, LoadsPayload};
 
 use crate::notes::{ServiceEvent, WriterCall};
@@ -181,9 +181,11 @@ pub trait Words {
         ensures told { (world : World) → means.told self.old ≡ Some world
             → means.told self.new ≡ Some (with_writer_view world (means.place seat.old) (means.view self.new seat.new)) };
 
+    /// That a chunk arrived is noted once it was taken.
     fn note(&mut self, seat: &mut Self::Service, event: ServiceEvent)
         requires seat { means.serves self.old seat.old }
         requires read { IsReadEvent event → means.takes_reads self.old seat.old }
+        requires taken { MayNote (means.service_view self.old seat.old) (event_of event) }
         ensures view { means.service_view self.new seat.new ≡ notes (means.service_view self.old seat.old) (event_of event) }
         ensures step { IsServiceStep means self.old seat.old self.new seat.new }
         ensures told { (world : World) → means.told self.old ≡ Some world
