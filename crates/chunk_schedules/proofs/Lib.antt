@@ -3,4 +3,5 @@ pub mod MoveLemmas
 pub mod ScheduleLemmas
 pub mod VainLemmas
 pub mod ArrivalLemmas
+pub mod TakenLemmas
 pub mod RequestLemmas

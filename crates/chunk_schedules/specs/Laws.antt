@@ -52,6 +52,12 @@ abbrev pub FreedHaveArrived : Type 0
 FreedHaveArrived = (setup : Setup) (moves : List Move) (world : World) → IsSchedule setup (first_world setup) moves world
     → (place position : ℕ) → position < (taken_of world.service place).count → IsReadOrArrived world place position
 
+-- And whatever has arrived was taken.
+abbrev pub ArrivedWereTaken : Type 0
+ArrivedWereTaken = (setup : Setup) (moves : List Move) (world : World) → IsSchedule setup (first_world setup) moves world
+    → (place position : ℕ) → is_arrival_noted (sequence_of place) position world.service.events ≡ true
+    → position < (taken_of world.service place).count
+
 -- The given moves make the request that is this letter of the service: it is the one between those before and those after, and in the world
 -- to which those before lead so many events are noted, and no chunk is read.
 pub record FindsRequest (setup : Setup) (moves : List Move) (old new : World) (number events : ℕ) : Type 0 where

@@ -16,7 +16,7 @@ use Rattle.chunk_plain.specs.Owned.{times, held_count}
 use Rattle.chunk_plain.specs.Drafts.{MayFollow, IsDraft, IsFound, IsThere, IsHolding, head_of, draft_at, ends_by}
 use Rattle.chunk_plain.specs.Histories.{completed_images}
 use Rattle.chunk_plain.specs.Plain.{read_as}
-use Rattle.chunk_plain.specs.Words.{is_arrival_noted}
+use Rattle.chunk_plain.specs.Words.{is_arrival_noted, MayNote}
 use Rattle.chunk_plain.specs.declared.tokens.TheConstants.{POSITION_LIMIT}
 
 -- A writer is named by its place, from 0, and its chunks by their positions. The page words and header words that a step found are kept in
@@ -45,7 +45,7 @@ pub data Move : Type 0 where
   Learns : (place chunk : ℕ) → Content → Move
   -- it frees a chunk that it read, and whose arrival it noted
   Releases : (chunk : ℕ) → Move
-  -- it notes an event
+  -- it notes an event; that a chunk arrived, of one that it took
   Notes : Noted → Move
   -- it notes a commit
   Commits : Committed → Move
@@ -220,7 +220,7 @@ MayMove setup world (Takes place chunk word header) =
     × SaysState setup chunk word Complete
 MayMove setup world (Learns place chunk content) = IsWriter world place × MayLearn world place chunk content
 MayMove setup world (Releases chunk) = IsChunk world chunk × MayRelease world chunk
-MayMove setup world (Notes event) = IsPlainNote event
+MayMove setup world (Notes event) = IsPlainNote event × MayNote world.service event
 MayMove setup world (Commits committed) = Unit {0}
 MayMove setup world (HearsOf place number) = IsWriter world place × MayHear world place number
 MayMove setup world (Answers place flush chunks) = IsWriter world place × MayAnswer (writer world place) flush chunks

@@ -1,6 +1,6 @@
 //! The laws: contracts of functions with nothing to do.
 ghost use Rattle.chunk_schedules.specs.Laws.{SchedulesJoin, SchedulesKeepOwnership, ClaimsInVainFindHad};
-ghost use Rattle.chunk_schedules.specs.Laws.{FreedHaveArrived, RequestsAreMadeInTurn};
+ghost use Rattle.chunk_schedules.specs.Laws.{FreedHaveArrived, ArrivedWereTaken, RequestsAreMadeInTurn};
 
 /// Schedules go on one behind another, and each front of a schedule is one.
 pub fn schedules_join()
@@ -20,6 +20,11 @@ pub fn claims_in_vain_find_had()
 /// What was taken and is read no longer has arrived.
 pub fn freed_have_arrived()
     ensures { FreedHaveArrived }
+{}
+
+/// What has arrived was taken.
+pub fn arrived_were_taken()
+    ensures { ArrivedWereTaken }
 {}
 
 /// Each request was made behind as many events as it says, while no chunk was read.
