@@ -7,12 +7,12 @@ use Rattle.chunk_plain.specs.declared.notes.ServiceEvent.TheVariants as event
 use Rattle.chunk_plain.specs.declared.step.Step.TheVariants.{Claim}
 use Rattle.chunk_plain.specs.Setup.{Setup}
 use Rattle.chunk_plain.specs.Payload.{sealed_to}
-use Rattle.chunk_plain.specs.Views.{WriterView}
+use Rattle.chunk_plain.specs.Views.{WriterView, ServiceView}
 use Rattle.chunk_plain.specs.World.{World, Status, Unclaimed, Claimed, Stamped, Writing, Ready, Reading, status, writer}
 use Rattle.chunk_plain.specs.Drafts.{draft_at, head_at}
 use Rattle.chunk_plain.specs.Stored.{Stored}
 use Rattle.chunk_plain.specs.Shows.{claim_of, content_of}
-use Rattle.chunk_plain.specs.Words.{WasHad, event_of}
+use Rattle.chunk_plain.specs.Words.{WasHad, IsReadEvent, MayNote, event_of}
 use Rattle.chunk_plain.specs.Plain.{world_after, StandsWhole, IsKept}
 use Rattle.chunk_schedules.specs.Moves.{MayComplete, IsPlainNote, claimed_in}
 
@@ -72,3 +72,11 @@ plain_note (event.Partial sequence chunk_id limit) = tt
 plain_note (event.Patched sequence chunk_id) = tt
 plain_note (event.Closed sequence) = tt
 plain_note (event.Read sequence limit) = tt
+
+-- a read may be noted always
+pub read_may_note : (one : ServiceEvent) (view : ServiceView) → IsReadEvent one → MayNote view (event_of one)
+read_may_note (event.Arrive sequence chunk_id) view read = absurd read
+read_may_note (event.Partial sequence chunk_id limit) view read = tt
+read_may_note (event.Patched sequence chunk_id) view read = tt
+read_may_note (event.Closed sequence) view read = tt
+read_may_note (event.Read sequence limit) view read = tt

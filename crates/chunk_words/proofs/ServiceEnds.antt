@@ -183,7 +183,7 @@ module _ (setup : Setup) (count id made : ℕ) (desk : Desk) where
       → ((view : ServiceView) → (step view).looks ≡ view.looks) → ((view : ServiceView) → (step view).taken ≡ view.taken) → ((view : ServiceView) → (step view).reading ≡ view.reading)
       → ((view : ServiceView) → (step view).letters ≡ view.letters)
       → ((view : ServiceView) → IsMade desk.stage → GoesOn view (step view))
-      → ((world : World) → (move : Move) × MayMove setup world move × (behind world move ≡ serviced world (step world.service)))
+      → ((world : World) → v ≡ world.service → (move : Move) × MayMove setup world move × (behind world move ≡ serviced world (step world.service)))
       → Allows (IsShared setup) count id (Service 0 made desk watch v, []) index (λ found. found) (λ _. Serves step (Service 0 made desk watch v, []))
   notes_allowed index step watch v looks taken reading letters goes moves s r deep at small =
       let f = r.manned.each id (Service 0 made desk watch v) at in
@@ -195,6 +195,6 @@ module _ (setup : Setup) (count id made : ℕ) (desk : Desk) where
         subst (λ z. IsShared setup (record { words = set s.words index (get_or s.words index 0); homes = s.homes; views = set s.views id (Service 0 made desk Nothing (step z)) })) (sym f.0)
             (serviced_allowed setup s r id index made desk watch Nothing v view at kept (goes r.world.service)
             (λ i tale there true_ n position look content since at_look. true_.1 n position look content since (subst (λ (l : List Look). At l n look) (looks r.world.service) at_look)) tt
-            (let one = moves r.world in led_on setup r.roll.marks r.world (serviced r.world view) one.0 r.led one.1 one.2) (letters r.world.service)),
+            (let one = moves r.world f.0 in led_on setup r.roll.marks r.world (serviced r.world view) one.0 r.led one.1 one.2) (letters r.world.service)),
         record { new_is = refl; seen = ∣ (serviced r.world view, kept.owned, ap step (sym f.0)) ∣₁ },
       )

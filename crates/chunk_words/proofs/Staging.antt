@@ -11,7 +11,7 @@ use Rattle.chunk_plain.specs.Steps.{notes, serviced}
 use Rattle.chunk_plain.specs.Letters.{last_flush}
 use Rattle.chunk_plain.proofs.Lists.{at_inside, at_one, at_more}
 use Rattle.chunk_plain.proofs.KeptService.{serviced_kept}
-use Rattle.chunk_schedules.specs.Moves.{Notes as NotesMove, IsPlainNote}
+use Rattle.chunk_schedules.specs.Moves.{Notes as NotesMove, MayMove}
 use Rattle.chunk_schedules.specs.Schedules.{IsLed}
 use Rattle.chunk_schedules.proofs.Leading.{led_on, led_mark}
 use Rattle.chunk_words.specs.GoesOn.{GoesOn}
@@ -215,9 +215,9 @@ module _ (setup : Setup) (id made : ℕ) (desk : Desk) (watch : Watch) (v : Serv
       (subst (λ views. IsManned setup r.world (with_pass r.roll (Here passed) 0 passed) views) (set_comm s.views other id Spent both apart) two)
 
   pub read_allowed : (count index : ℕ) (passed : ServiceView) (note : Noted) → desk.stage ≡ Here passed
-      → IsPlainNote note
+      → ((before : World) → MayMove setup before (NotesMove note))
       → Allows (IsShared setup) count id (Service 0 made desk watch v, []) index (λ found. found) (λ _. NotesRead note (Service 0 made desk watch v, []))
-  read_allowed count index passed note here plain s r deep at small =
+  read_allowed count index passed note here may s r deep at small =
       let world = r.world in let f = r.manned.each id (Service 0 made desk watch v) at in let stage = f.6 ∙ here in
       let view = notes world.service note in let next = serviced world view in
       let kept = serviced_kept setup r.front r.slots world view r.kept refl refl refl in
@@ -246,7 +246,7 @@ module _ (setup : Setup) (id made : ℕ) (desk : Desk) (watch : Watch) (v : Serv
           roll = roll;
           laid = r.laid;
           kept = kept;
-          led = led_on setup r.roll.marks world next (NotesMove note) r.led plain refl;
+          led = led_on setup r.roll.marks world next (NotesMove note) r.led (may world) refl;
           words = words_loaded setup s.words r.front r.slots index r.words;
           mail = mail_by_service setup world next (set s.words index (get_or s.words index 0)) refl refl (mail_loaded setup world s.words index r.mail);
           bodies = bodies_stay setup s.homes r.slots r.slots r.roll roll r.bodies (λ d. refl)

@@ -127,6 +127,7 @@ impl HostTable {
     /// Notes a read, while the reading pass is with the service.
     fn step_read(&self, seat: &mut ServiceSeat, event: ServiceEvent)
         requires seat { CanServe self.now seat.old }
+        requires read { IsReadEvent event }
         requires here { stage_of seat.old.seat.me.0 ≡ Here (staged (stage_of seat.old.seat.me.0)) }
         ensures { ServiceLeaves seat.old seat.new (NotesRead (event_of event)) }
     {

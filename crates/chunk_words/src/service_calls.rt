@@ -6,7 +6,7 @@ ghost use Rattle.chunk_plain.specs.Setup.{spot, from_of};
 ghost use Rattle.chunk_plain.specs.Views.{taken_of};
 ghost use Rattle.chunk_plain.specs.Owned.{times};
 ghost use Rattle.chunk_plain.specs.Steps.{looks_at, takes_in, learns, lets_go, notes, notes_commit};
-ghost use Rattle.chunk_plain.specs.Words.{IsServing, AllArrived, LooksAt, TakesChunk, FindsOther, IsReadEvent, event_of, committed_of};
+ghost use Rattle.chunk_plain.specs.Words.{IsServing, AllArrived, LooksAt, TakesChunk, FindsOther, IsReadEvent, MayNote, event_of, committed_of};
 ghost use Rattle.page_geometry.specs.Header.{packed};
 ghost use Rattle.page_geometry.specs.declared.chunk_state.ChunkState.TheVariants.{Complete};
 ghost use Rattle.chunk_plain.specs.Payload.{byte_of, byte_in};
@@ -193,10 +193,12 @@ impl HostTable {
         self.step_release(seat, chunk);
     }
 
-    /// The event joins the view. Once a reading pass is made, no read is noted so.
+    /// The event joins the view. Once a reading pass is made, no read is noted so. That a chunk arrived is
+    /// noted once it was taken.
     pub fn note(&self, seat: &mut ServiceSeat, event: ServiceEvent)
         requires seat { Attends self.now seat.old }
         requires read { IsReadEvent event → stage_of seat.old.seat.me.0 ≡ Unmade }
+        requires taken { MayNote (service_of seat.old.seat.me.0) (event_of event) }
         ensures view { service_of seat.new.seat.me.0 ≡ notes (service_of seat.old.seat.me.0) (event_of event) }
         ensures desk { desk_of seat.new.seat.me.0 ≡ desk_of seat.old.seat.me.0 }
         ensures seat { Attends self.now seat.new }

@@ -7,7 +7,7 @@ ghost use Rattle.chunk_plain.specs.Setup.{spot};
 ghost use Rattle.chunk_plain.specs.Views.{taken_of};
 ghost use Rattle.chunk_plain.specs.Owned.{times};
 ghost use Rattle.chunk_plain.specs.Steps.{learns, lets_go, notes, notes_commit};
-ghost use Rattle.chunk_plain.specs.Words.{AllArrived, IsReadEvent, event_of, committed_of};
+ghost use Rattle.chunk_plain.specs.Words.{AllArrived, IsReadEvent, MayNote, event_of, committed_of};
 ghost use Rattle.chunk_words.specs.Knows.{Peeked, Known, Lifted, Unmade, desk_of, stage_of, watch_of, service_of};
 ghost use Rattle.chunk_words.specs.Moves.{watched, body_in, Peeks, Looks, ReadsHeader, Misses, Serves, Takes, Loads, Lifts, WatchesNext};
 ghost use Rattle.chunk_words.specs.Places.{payload_start, payload_words};
@@ -232,6 +232,7 @@ impl HostTable {
     pub(crate) fn step_event(&self, seat: &mut ServiceSeat, event: ServiceEvent)
         requires seat { CanServe self.now seat.old }
         requires read { IsReadEvent event → stage_of seat.old.seat.me.0 ≡ Unmade }
+        requires taken { MayNote (service_of seat.old.seat.me.0) (event_of event) }
         ensures { ServiceLeaves seat.old seat.new (Serves (λ view. notes view (event_of event))) }
     {
         let table = &self.table;

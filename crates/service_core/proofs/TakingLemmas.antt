@@ -11,11 +11,11 @@ use Rattle.page_geometry.specs.Header.{packed}
 use Rattle.chunk_plain.specs.declared.tokens.Taken.{Taken as TakenToken}
 use Rattle.chunk_plain.specs.declared.tokens.NotComplete.{NotComplete}
 use Rattle.chunk_plain.specs.Setup.{Setup, id_at}
-use Rattle.chunk_plain.specs.Words.{taken_content, TakesChunk, FindsOther, AllArrived, OthersArrived}
+use Rattle.chunk_plain.specs.Words.{taken_content, TakesChunk, FindsOther, AllArrived, LacksArrival}
 use Rattle.chunk_plain.specs.Views.{Content, Look, Taken, none_taken, ServiceView, taken_of}
 use Rattle.chunk_plain.specs.Steps.{without, taken_counts, looks_at, takes_in, learns, lets_go}
 use Rattle.chunk_plain.specs.Histories.{content_at}
-use Rattle.chunk_plain.proofs.ArrivedLemmas.{takes_arrive}
+use Rattle.chunk_plain.proofs.ArrivedLemmas.{takes_lacks}
 use Rattle.service_core.specs.Looking.{looked}
 use Rattle.service_core.specs.Taking.{takings, noted_more, taken_more, took, SeesOther}
 use Rattle.service_core.proofs.HistoryLemmas.{Grows, found_more}
@@ -120,10 +120,10 @@ other_of setup old new place chunk id found is id_fits writer_fits finds = recor
 }
 
 -- behind the taking of a chunk all else that was taken has arrived
-pub others_of : (setup : Setup) (old mid : ServiceView) (place chunk id position : ℕ) (taken : TakenToken) → place < length old.taken
+pub lacks_of : (setup : Setup) (old mid : ServiceView) (place chunk id position : ℕ) (taken : TakenToken) → place < length old.taken
     → position ≡ (taken_of old place).count → TakesChunk setup chunk (place + 1) id taken old mid → AllArrived old
-    → OthersArrived mid place position
-others_of setup old mid place chunk id position taken inside is takes all =
+    → LacksArrival mid place position
+lacks_of setup old mid place chunk id position taken inside is takes all =
     let back : place + 1 - 1 ≡ place = omega arith in
-    let others = takes_arrive setup old mid chunk (place + 1) id taken takes (omega (arith, inside)) all in
-    subst (λ (n : ℕ). OthersArrived mid place n) (sym is) (subst (λ (p : ℕ). OthersArrived mid p (taken_of old p).count) back others)
+    let lacks = takes_lacks setup old mid chunk (place + 1) id taken takes (omega (arith, inside)) all in
+    subst (λ (n : ℕ). LacksArrival mid place n) (sym is) (subst (λ (p : ℕ). LacksArrival mid p (taken_of old p).count) back lacks)

@@ -6,7 +6,7 @@ ghost use Rattle.chunk_plain.specs.Setup.{range_of, producer_of, IsChunkOf, sequ
 ghost use Rattle.chunk_plain.specs.Views.{taken_of};
 ghost use Rattle.chunk_plain.specs.World.{World, Unclaimed};
 ghost use Rattle.chunk_plain.specs.Steps.{lets_go, served};
-ghost use Rattle.chunk_plain.specs.Words.{taken_content, OthersArrived};
+ghost use Rattle.chunk_plain.specs.Words.{taken_content, LacksArrival};
 ghost use Rattle.chunk_plain.specs.Meaning.{IsServiceStep};
 ghost use Rattle.service_core.specs.Agreement.{IsOpen};
 ghost use Rattle.service_core.specs.Taking.{patched_where, takings, noted_more, IsRange, TakesOf, Takes, places_of, TakenFor, HasRoute, PutsIn};
@@ -55,7 +55,7 @@ impl<S> ServiceCore<S> {
         taken: Taken,
     )
         requires taken { TakenFor W.means table.old self.old.seat place position taken }
-        requires arrived { OthersArrived (W.means.service_view table.old self.old.seat) place position }
+        requires lacks { LacksArrival (W.means.service_view table.old self.old.seat) place position }
         requires route { HasRoute (W.means.setup table.old) self.old place (vec_len taken.body.payload) }
         ensures puts { PutsIn (W.means.setup table.old) place position taken self.old self.new }
         ensures view { W.means.service_view table.new self.new.seat

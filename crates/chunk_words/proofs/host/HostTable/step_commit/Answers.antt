@@ -10,4 +10,4 @@ make_load-requires-clause-allowed c =
     let self = c.args.self.now in let seat = c.args.seat.now.seat in let k = seat.me.0 in
     rw (self.key, c.requires.seat.idle)
     (notes_allowed self.layout _ seat.id (made_of k) (desk_of k) _ _ (watch_of k) (service_of k) (λ v. refl) (λ v. refl) (λ v. refl) (λ v. refl) (λ v _. goes_commit v _)
-    (λ w. (Commits _, tt, refl)))
+    (λ w _. (Commits _, tt, refl)))

@@ -10,6 +10,7 @@ use Rattle.trace_model.specs.History.{buffers_after}
 use Rattle.chunk_image.specs.Values.{image_value}
 use Rattle.service_core.specs.Routing.{IsAt, from_at, arrivals_of}
 use Rattle.service_core.specs.Agreement.{spec_at}
+use Rattle.chunk_plain.specs.Views.{taken_of}
 use Rattle.chunk_plain.specs.Words.{AllArrived}
 use Rattle.chunk_plain.proofs.ArrivedLemmas.{all_arrived}
 use Rattle.service_core.proofs.AgreeLemmas.{arrived_behind}
@@ -31,12 +32,19 @@ patch_in-requires g c =
     let events = arrivals_of (placed_image (from_at bs (c.from-index.result - 1) (c.args.place + 2)) image) in
     (size, subst (λ (xs : List Buffer). IsAt xs (c.from-index.result - 1) (c.args.place + 2) size) (sym after) (is_at_after bs (c.from-index.result - 1) (c.args.place + 2) size events at))
 
+-- the chunk was taken
+pub note-requires-clause-taken : goal.note-requires-clause-taken
+note-requires-clause-taken g c =
+    let view = g.W.Words.means.service_view c.args.table.now c.args.self.now.seat in
+    let back : c.args.place + 2 - 2 ≡ c.args.place = omega arith in
+    subst (λ (p : ℕ). c.args.position < (taken_of view p).count) (sym back) c.requires.lacks.taken
+
 -- its arrival is noted, and then its patches
 pub release-requires-clause-arrived : goal.release-requires-clause-arrived
 release-requires-clause-arrived g c =
     let view = g.W.Words.means.service_view c.args.table.now c.args.self.now.seat in
     arrived_behind c.note_patches.ensures
-    (subst AllArrived (sym c.note.ensures.view) (all_arrived view c.args.place c.args.position [] c.requires.arrived))
+    (subst AllArrived (sym c.note.ensures.view) (all_arrived view c.args.place c.args.position [] c.requires.lacks.others))
 
 pub returns-clause-puts : goal.returns-clause-puts
 returns-clause-puts g c =

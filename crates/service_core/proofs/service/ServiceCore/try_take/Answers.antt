@@ -8,7 +8,7 @@ use Rattle.chunk_plain.specs.Steps.{lets_go}
 use Rattle.service_core.specs.Routing.{arrivals_of}
 use Rattle.service_core.specs.Agreement.{ServiceAgrees, KeepsFields}
 use Rattle.service_core.proofs.KeptLemmas.{has_place, has_route}
-use Rattle.service_core.proofs.TakingLemmas.{one_of, other_of, others_of}
+use Rattle.service_core.proofs.TakingLemmas.{one_of, other_of, lacks_of}
 use Rattle.service_core.proofs.AgreeLemmas.{agrees_took, looks_on}
 use Rattle.service_core.proofs.RoutedLemmas.{closed_stays}
 use Rattle.service_core.proofs.service.ServiceCore.try_take.Goals as goal
@@ -29,14 +29,14 @@ take_in-requires-clause-route g c =
     (has_route setup view core place c.requires.writer.service.agrees c.requires.writer.inside c.take.new.seat (vec_len c.in-Ok.taken.body.payload) size_is c.requires.writer.is_open)
 
 -- all else that was taken has arrived
-pub take_in-requires-clause-arrived : goal.take_in-requires-clause-arrived
-take_in-requires-clause-arrived g c =
+pub take_in-requires-clause-lacks : goal.take_in-requires-clause-lacks
+take_in-requires-clause-lacks g c =
     let setup = g.W.Words.means.setup c.args.table.now in
     let old = g.W.Words.means.service_view c.args.table.now c.args.self.now.seat in
     let mid = g.W.Words.means.service_view c.take.new.self c.take.new.seat in
     let agrees = c.requires.writer.service.agrees in
     let inside = has_place setup old c.args.self.now c.args.place agrees c.requires.writer.inside in
-    others_of setup old mid c.args.place c.args.chunk c.id_at-id.result c.args.position c.in-Ok.taken inside c.requires.next c.in-Ok.ensures.taken
+    lacks_of setup old mid c.args.place c.args.chunk c.id_at-id.result c.args.position c.in-Ok.taken inside c.requires.next c.in-Ok.ensures.taken
     agrees.arrived
 
 -- the chunk is put in as a content of the set-up before
