@@ -1,13 +1,15 @@
--- A schedule leads to what was done in a run, by way of the marked world, and each claim in vain of it was made where somebody had the chunk.
+-- A schedule leads to what was done in a run, by way of the marked world; each claim in vain of it was made where somebody had the chunk, and each
+-- request where it says.
 use Rattle.std.proofs.Common.{◌≡◌, Bool, List, ◌++◌, get_or, sym, subst}
 use Rattle.std.proofs.Math.Logic.{∥∥₁_elim, ∥∥₁_map₂}
 use Rattle.chunk_plain.specs.Setup.{Setup}
-use Rattle.chunk_plain.specs.Views.{At, WriterView, newcomer}
+use Rattle.chunk_plain.specs.Views.{At, Asked, ServiceView, WriterView, newcomer}
 use Rattle.chunk_plain.specs.World.{World}
 use Rattle.chunk_plain.specs.Plain.{first_world}
 use Rattle.chunk_schedules.specs.Moves.{Move}
 use Rattle.chunk_schedules.specs.Schedules.{IsSchedule, Leads}
 use Rattle.chunk_schedules.proofs.ScheduleLemmas.{schedules_join}
+use Rattle.chunk_schedules.proofs.RequestLemmas.{requests_are_made_in_turn}
 use Rattle.chunk_schedules.proofs.VainLemmas.{claims_in_vain_find_had}
 use Rattle.scenario_text.specs.Scenario.{Parts}
 use Rattle.run_model.specs.Laws.{LosesWhereHad, LostClaimsFindHad}
@@ -29,6 +31,8 @@ loses_where_had scenario setup world closed done =
       goes.3,
       λ place number ask at lost. claims_in_vain_find_had setup (first.0 ++ then.0) goes.0 schedule place number ask
           (subst (λ (views : List WriterView). At (get_or views place newcomer).asked number ask) (sym goes.2) at) lost,
+      λ number events at. requests_are_made_in_turn setup (first.0 ++ then.0) goes.0 schedule number events
+          (subst (λ (view : ServiceView). At view.letters number (Asked events)) (sym goes.3) at),
     )))
 
 pub lost_claims_find_had : LostClaimsFindHad

@@ -29,7 +29,7 @@ answered_out view = without_answers 0 view.letters.answers view.calls
 -- the chunks in the first answer of the writer at this place to this request or a later one, of those that were read; none without one
 abbrev pub chunks_to : (flush place : ℕ) → List Letter → ℕ
 chunks_to flush place [] = 0
-chunks_to flush place (Asked ∷ letters) = chunks_to flush place letters
+chunks_to flush place (Asked events ∷ letters) = chunks_to flush place letters
 chunks_to flush place (Heard other number chunks ∷ letters) =
     if (other == place) && nat_lt flush (suc number) then chunks else chunks_to flush place letters
 
