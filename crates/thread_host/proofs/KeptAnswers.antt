@@ -82,15 +82,15 @@ answers_same writers old new before after letters session was =
     subst (λ (l : List Letter). KeepsAnswers writers l after) (sym letters) (subst (KeepsAnswers writers old) (sym session) was)
 
 -- behind a request
-pub answers_asked : (writers : ℕ) (letters : List Letter) (old new : SessionValue) → new ≡ requested old
-    → KeepsAnswers writers letters old → KeepsAnswers writers (letters ++ Asked ∷ []) new
-answers_asked writers letters old new is was = record {
+pub answers_asked : (writers events : ℕ) (letters : List Letter) (old new : SessionValue) → new ≡ requested old
+    → KeepsAnswers writers letters old → KeepsAnswers writers (letters ++ Asked events ∷ []) new
+answers_asked writers events letters old new is was = record {
   room = let long = ap (λ (s : SessionValue). length s.answers) is in let room = was.room in omega (arith, long, room);
   each = λ place below.
       ap (λ (s : SessionValue). answer_at s place) is
       ∙ was.each place below
-      ∙ sym (read_same place letters (letters ++ Asked ∷ []) (newest_asked place letters)
-      (λ some. chunks_stay (newest_read place letters) place letters Asked refl));
+      ∙ sym (read_same place letters (letters ++ Asked events ∷ []) (newest_asked place events letters)
+      (λ some. chunks_stay (newest_read place letters) place letters (Asked events) refl));
 }
 
 -- behind an answer that is no newer, which doesn't go to it

@@ -17,13 +17,14 @@ use Rattle.thread_host.specs.Tally.{AreHeardInOrder}
 pub none_ordered : AreHeardInOrder []
 none_ordered n m place flush chunks number many before early late some = absurd (some-ne-none (Heard place flush chunks) (sym early))
 
-asked_ordered : (letters : List Letter) → AreHeardInOrder letters → AreHeardInOrder (letters ++ Asked ∷ [])
-asked_ordered letters was n m place flush chunks number many before early late some =
+asked_ordered : (letters : List Letter) (events : ℕ) → AreHeardInOrder letters → AreHeardInOrder (letters ++ Asked events ∷ [])
+asked_ordered letters events was n m place flush chunks number many before early late some =
     was n m place flush chunks number many before (old_of n flush chunks early) (old_of m number many late) some
   where
-    old_of : (k f c : ℕ) → At (letters ++ Asked ∷ []) k (Heard place f c) → At letters k (Heard place f c)
+    old_of : (k f c : ℕ) → At (letters ++ Asked events ∷ []) k (Heard place f c) → At letters k (Heard place f c)
     old_of k f c at =
-        ⊎_elim (λ old. old) (λ new. absurd (let never : Asked ≡ Heard place f c = new.1 in cc)) (at_more letters Asked (Heard place f c) k at)
+        ⊎_elim (λ old. old) (λ new. absurd (let never : Asked events ≡ Heard place f c = new.1 in cc))
+        (at_more letters (Asked events) (Heard place f c) k at)
 
 answer_ordered : (letters : List Letter) (place flush chunks : ℕ)
     → ((n number many : ℕ) → At letters n (Heard place number many) → 0 < number → (number ≤ flush) × (number ≡ flush → many ≡ chunks))
@@ -89,7 +90,8 @@ once_ordered setup lines old new (inr (inr (inl read))) was =
     same_ordered old.letters new.letters (ap (λ (v : ServiceView). v.letters) read.1) was
 once_ordered setup lines old new (inr (inr (inr (inl hears)))) was = hears_ordered (length setup.writers) old new hears was
 once_ordered setup lines old new (inr (inr (inr (inr asks)))) was =
-    same_ordered (old.letters ++ Asked ∷ []) new.letters (ap (λ (v : ServiceView). v.letters) asks) (asked_ordered old.letters was)
+    same_ordered (old.letters ++ Asked (length old.events) ∷ []) new.letters (ap (λ (v : ServiceView). v.letters) asks)
+    (asked_ordered old.letters (length old.events) was)
 
 by_ordered : (setup : Setup) (lines : List NumberedLine) (views : List ServiceView) (old new : ServiceView) → GrowsBy setup lines views old new
     → AreHeardInOrder old.letters → AreHeardInOrder new.letters

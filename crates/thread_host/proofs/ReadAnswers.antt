@@ -28,7 +28,7 @@ use Rattle.thread_host.specs.Tally.{HearsOf, KeepsServing, KeepsSession}
 
 pub asked_both : (letters more : List Letter) → asked_in (letters ++ more) ≡ asked_in letters + asked_in more
 asked_both [] more = omega arith
-asked_both (Asked ∷ letters) more = let rest = asked_both letters more in omega (arith, rest)
+asked_both (Asked events ∷ letters) more = let rest = asked_both letters more in omega (arith, rest)
 asked_both (Heard place flush chunks ∷ letters) more = asked_both letters more
 
 -- answers of writers were read, and nothing else

@@ -21,7 +21,7 @@ newest_test false flush first other is number = is
 pub newest_own : (place other flush chunks : ℕ) (letters : List Letter) → other ≡ place
     → newest_read place (letters ++ Heard other flush chunks ∷ []) ≡ later flush (newest_read place letters)
 newest_own place other flush chunks [] is = ap (λ (b : Bool). cond b (later flush 0) 0) (eq-eqb other place is)
-newest_own place other flush chunks (Asked ∷ letters) is = newest_own place other flush chunks letters is
+newest_own place other flush chunks (Asked events ∷ letters) is = newest_own place other flush chunks letters is
 newest_own place other flush chunks (Heard one number many ∷ letters) is =
     newest_test (one == place) flush (newest_read place letters) (newest_read place (letters ++ Heard other flush chunks ∷ []))
     (newest_own place other flush chunks letters is) number
@@ -29,25 +29,26 @@ newest_own place other flush chunks (Heard one number many ∷ letters) is =
 pub newest_other : (place other flush chunks : ℕ) (letters : List Letter) → other ≢ place
     → newest_read place (letters ++ Heard other flush chunks ∷ []) ≡ newest_read place letters
 newest_other place other flush chunks [] apart = ap (λ (b : Bool). cond b (later flush 0) 0) (ne_eqb other place apart)
-newest_other place other flush chunks (Asked ∷ letters) apart = newest_other place other flush chunks letters apart
+newest_other place other flush chunks (Asked events ∷ letters) apart = newest_other place other flush chunks letters apart
 newest_other place other flush chunks (Heard one number many ∷ letters) apart =
     ap (λ (n : ℕ). cond (one == place) (later number n) n) (newest_other place other flush chunks letters apart)
 
-pub newest_asked : (place : ℕ) (letters : List Letter) → newest_read place (letters ++ Asked ∷ []) ≡ newest_read place letters
-newest_asked place [] = refl
-newest_asked place (Asked ∷ letters) = newest_asked place letters
-newest_asked place (Heard one number many ∷ letters) = ap (λ (n : ℕ). cond (one == place) (later number n) n) (newest_asked place letters)
+pub newest_asked : (place events : ℕ) (letters : List Letter) → newest_read place (letters ++ Asked events ∷ []) ≡ newest_read place letters
+newest_asked place events [] = refl
+newest_asked place events (Asked before ∷ letters) = newest_asked place events letters
+newest_asked place events (Heard one number many ∷ letters) =
+    ap (λ (n : ℕ). cond (one == place) (later number n) n) (newest_asked place events letters)
 
 -- ---- whether a request was answered
 
 abbrev found : (flush place : ℕ) → List Letter → Bool
 found flush place [] = false
-found flush place (Asked ∷ letters) = found flush place letters
+found flush place (Asked events ∷ letters) = found flush place letters
 found flush place (Heard other number chunks ∷ letters) = ((other == place) && nat_lt flush (suc number)) || found flush place letters
 
 found_yes : (flush place : ℕ) (letters : List Letter) → 0 < flush → flush ≤ newest_read place letters → found flush place letters ≡ true
 found_yes flush place [] some low = absurd (omega (arith, some, low))
-found_yes flush place (Asked ∷ letters) some low = found_yes flush place letters some low
+found_yes flush place (Asked events ∷ letters) some low = found_yes flush place letters some low
 found_yes flush place (Heard other number chunks ∷ letters) some low = by_test (other == place) (λ most. found_yes flush place letters some most) low
   where
     by_number : (flush < suc number) ⊎ (suc number ≤ flush) → (flush ≤ newest_read place letters → found flush place letters ≡ true)
@@ -64,7 +65,7 @@ found_yes flush place (Heard other number chunks ∷ letters) some low = by_test
 
 found_no : (flush place : ℕ) (letters : List Letter) → newest_read place letters < flush → found flush place letters ≡ false
 found_no flush place [] low = refl
-found_no flush place (Asked ∷ letters) low = found_no flush place letters low
+found_no flush place (Asked events ∷ letters) low = found_no flush place letters low
 found_no flush place (Heard other number chunks ∷ letters) low = by_test (other == place) (λ least. found_no flush place letters least) low
   where
     by_test : (b : Bool) → (newest_read place letters < flush → found flush place letters ≡ false) → cond b (later number (newest_read place letters)) (newest_read place letters) < flush
@@ -75,7 +76,7 @@ found_no flush place (Heard other number chunks ∷ letters) low = by_test (othe
 
 none_found : (flush place : ℕ) (letters : List Letter) → found flush place letters ≡ false → chunks_to flush place letters ≡ 0
 none_found flush place [] none = refl
-none_found flush place (Asked ∷ letters) none = none_found flush place letters none
+none_found flush place (Asked events ∷ letters) none = none_found flush place letters none
 none_found flush place (Heard other number chunks ∷ letters) none =
     by_test ((other == place) && nat_lt flush (suc number)) (λ is. none_found flush place letters is) none
   where
@@ -87,7 +88,7 @@ none_found flush place (Heard other number chunks ∷ letters) none =
 chunks_append : (flush place : ℕ) (letters : List Letter) (one : Letter)
     → chunks_to flush place (letters ++ one ∷ []) ≡ cond (found flush place letters) (chunks_to flush place letters) (chunks_to flush place (one ∷ []))
 chunks_append flush place [] one = refl
-chunks_append flush place (Asked ∷ letters) one = chunks_append flush place letters one
+chunks_append flush place (Asked events ∷ letters) one = chunks_append flush place letters one
 chunks_append flush place (Heard other number chunks ∷ letters) one =
     by_test ((other == place) && nat_lt flush (suc number)) (chunks_append flush place letters one)
   where
@@ -176,7 +177,7 @@ AreSmall letters = (n place flush chunks : ℕ) → At letters n (Heard place fl
 
 chunks_small : (flush place : ℕ) (letters : List Letter) → AreSmall letters → chunks_to flush place letters < 2 ^ 32
 chunks_small flush place [] small = omega arith
-chunks_small flush place (Asked ∷ letters) small = chunks_small flush place letters (λ n p f c at. small (suc n) p f c at)
+chunks_small flush place (Asked events ∷ letters) small = chunks_small flush place letters (λ n p f c at. small (suc n) p f c at)
 chunks_small flush place (Heard other number chunks ∷ letters) small =
     by_test ((other == place) && nat_lt flush (suc number)) (chunks_small flush place letters (λ n p f c at. small (suc n) p f c at))
   where
@@ -190,7 +191,7 @@ sum_small flush (suc writers) letters small =
     let rest = sum_small flush writers letters small in let last = chunks_small flush writers letters small in omega (arith, rest, last)
 
 count_of : Letter → ℕ
-count_of Asked = 0
+count_of (Asked events) = 0
 count_of (Heard place flush chunks) = chunks
 
 small_more : (letters : List Letter) (place flush chunks : ℕ) → chunks < 2 ^ 32 → AreSmall letters → AreSmall (letters ++ Heard place flush chunks ∷ [])
@@ -199,9 +200,10 @@ small_more letters place flush chunks fits small n p f c at =
     ⊎_elim (λ old. small n p f c old) (λ new. subst (λ (m : ℕ). m < 2 ^ 32) (ap count_of new.1) fits)
     (at_more letters (Heard place flush chunks) (Heard p f c) n at)
 
-small_asked : (letters : List Letter) → AreSmall letters → AreSmall (letters ++ Asked ∷ [])
-small_asked letters small n p f c at =
-    ⊎_elim (λ old. small n p f c old) (λ new. absurd (let never : Asked ≡ Heard p f c = new.1 in cc)) (at_more letters Asked (Heard p f c) n at)
+small_asked : (letters : List Letter) (events : ℕ) → AreSmall letters → AreSmall (letters ++ Asked events ∷ [])
+small_asked letters events small n p f c at =
+    ⊎_elim (λ old. small n p f c old) (λ new. absurd (let never : Asked events ≡ Heard p f c = new.1 in cc))
+    (at_more letters (Asked events) (Heard p f c) n at)
 
 -- nothing was read
 pub sum_none : (flush writers : ℕ) → sum_to flush writers [] ≡ 0
@@ -286,15 +288,16 @@ tally_added requests writers place flush chunks letters old new inside newer roo
         ∙ sym (sum_same (suc k) writers letters (letters ++ Heard place flush chunks ∷ []) (unchanged k (chunks_older (suc k) place flush chunks letters (omega (arith, beyond)))))
 
 -- a request changes nothing
-pub tally_asked : (requests writers : ℕ) (letters : List Letter) (tally : Tally) → IsTally requests writers letters tally
-    → IsTally requests writers (letters ++ Asked ∷ []) tally
-tally_asked requests writers letters tally was = record {
+pub tally_asked : (requests writers events : ℕ) (letters : List Letter) (tally : Tally) → IsTally requests writers letters tally
+    → IsTally requests writers (letters ++ Asked events ∷ []) tally
+tally_asked requests writers events letters tally was = record {
   few = was.few;
   rows = was.rows;
   many = was.many;
-  small = small_asked letters was.small;
-  sums = λ k inside. was.sums k inside ∙ sym (sum_same (suc k) writers letters (letters ++ Asked ∷ []) (λ p below. chunks_stay (suc k) p letters Asked refl));
-  answered = λ p below. was.answered p below ∙ sym (newest_asked p letters);
+  small = small_asked letters events was.small;
+  sums = λ k inside. was.sums k inside
+      ∙ sym (sum_same (suc k) writers letters (letters ++ Asked events ∷ []) (λ p below. chunks_stay (suc k) p letters (Asked events) refl));
+  answered = λ p below. was.answered p below ∙ sym (newest_asked p events letters);
 }
 
 -- ---- what the report says

@@ -16,7 +16,7 @@ use Rattle.thread_host.specs.declared.tally.Tally.{Tally}
 -- the newest request to which an answer of the writer at this place was read, 0 without one
 abbrev pub newest_read : (place : ℕ) → List Letter → ℕ
 newest_read place [] = 0
-newest_read place (Asked ∷ letters) = newest_read place letters
+newest_read place (Asked events ∷ letters) = newest_read place letters
 newest_read place (Heard other flush chunks ∷ letters) = if other == place then later flush (newest_read place letters) else newest_read place letters
 
 -- There is room for so many requests of so many writers. Of each request the sum is that of the answers that were read, and of each writer the

@@ -42,7 +42,8 @@ returns g c =
     let knows : pass ≡ view_in new =
     subst (λ (state : SessionState). PassRequests (refusal_in Flush state) passed pass (view_in new)) c.args.self.now.started calls.passes.knows in
     let asked : asked_in pass.letters ≡ asked_in passed.letters + 1 =
-    ap (λ (v : ServiceView). asked_in v.letters) (knows ∙ asks) ∙ asked_more (view_in old).letters ∙ ap (λ n. n + 1) calls.passes.goes_on.asked in
+    ap (λ (v : ServiceView). asked_in v.letters) (knows ∙ asks) ∙ asked_more (view_in old).letters (length (view_in old).events)
+    ∙ ap (λ n. n + 1) calls.passes.goes_on.asked in
     record {
       pass = record { passes = calls.serves.passes; known = calls.serves.known };
       requested = record {
@@ -78,11 +79,13 @@ invariant_of-self g c =
           c.args.self.now.played;
       started = ap (λ (s : SessionValue). s.state) session ∙ c.args.self.now.started;
       few =
-          let more = ap (λ (v : ServiceView). asked_in v.letters) asks ∙ asked_more (view_in old).letters in
+          let more = ap (λ (v : ServiceView). asked_in v.letters) asks ∙ asked_more (view_in old).letters (length (view_in old).events) in
           let went = calls.passes.goes_on.asked in let room = c.requires.room.room in
           omega (arith, more, went, room);
       tallied = subst (λ (v : ServiceView). IsTally (requests_in g.N.HostName.lines) (length g.N.HostName.setup.writers) v.letters c.args.self.now.tally) (sym asks)
-          (tally_asked (requests_in g.N.HostName.lines) (length g.N.HostName.setup.writers) (view_in old).letters c.args.self.now.tally c.args.self.now.tallied);
+          (tally_asked (requests_in g.N.HostName.lines) (length g.N.HostName.setup.writers) (length (view_in old).events) (view_in old).letters c.args.self.now.tally
+          c.args.self.now.tallied);
       kept = subst (λ (v : ServiceView). KeepsAnswers (length g.N.HostName.setup.writers) v.letters (core_of new).session) (sym asks)
-          (answers_asked (length g.N.HostName.setup.writers) (view_in old).letters (core_of old).session (core_of new).session session c.args.self.now.kept);
+          (answers_asked (length g.N.HostName.setup.writers) (length (view_in old).events) (view_in old).letters (core_of old).session (core_of new).session session
+          c.args.self.now.kept);
     }
