@@ -4,4 +4,5 @@ pub mod ScheduleLemmas
 pub mod VainLemmas
 pub mod ArrivalLemmas
 pub mod TakenLemmas
+pub mod ReadLemmas
 pub mod RequestLemmas

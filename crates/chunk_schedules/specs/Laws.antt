@@ -1,5 +1,5 @@
 -- The laws of schedules that hold on each table of chunks, whatever is read from it.
-use Rattle.std.specs.Prelude.{◌≡◌, ◌⊎◌, ℕ, ◌<◌, true, false, List, [], ◌∷◌, ◌++◌, length}
+use Rattle.std.specs.Prelude.{◌≡◌, ◌⊎◌, ℕ, ◌<◌, ◌≤◌, true, false, List, [], ◌∷◌, ◌++◌, length}
 use Rattle.chunk_plain.specs.Setup.{Setup, sequence_of}
 use Rattle.chunk_plain.specs.Views.{At, Ask, Asked, Content, taken_of}
 use Rattle.chunk_plain.specs.World.{World, Reading, Unclaimed, status, writer}
@@ -41,13 +41,18 @@ ClaimsInVainFindHad = (setup : Setup) (moves : List Move) (world : World) → Is
     → (place number : ℕ) (ask : Ask) → At (writer world place).asked number ask → ask.won ≡ false
     → FindsHad setup moves (first_world setup) world place number ask
 
+-- Wherever a schedule leads, and so in each world on its way, the service reads one chunk at most.
+abbrev pub AtMostOneIsRead : Type 0
+AtMostOneIsRead = (setup : Setup) (moves : List Move) (world : World) → IsSchedule setup (first_world setup) moves world
+    → length world.service.reading ≤ 1
+
 -- The chunk at this position that was taken of the writer at this place is read still, or its arrival is noted.
 abbrev pub IsReadOrArrived : World → (place position : ℕ) → Type 0
 IsReadOrArrived world place position =
     ((chunk : ℕ) × (content : Content) × (status world chunk ≡ Reading place position content))
     ⊎ (is_arrival_noted (sequence_of place) position world.service.events ≡ true)
 
--- Wherever a schedule leads, and so in each world on its way, whatever was taken and is read no longer has arrived.
+-- There whatever was taken and is read no longer has arrived.
 abbrev pub FreedHaveArrived : Type 0
 FreedHaveArrived = (setup : Setup) (moves : List Move) (world : World) → IsSchedule setup (first_world setup) moves world
     → (place position : ℕ) → position < (taken_of world.service place).count → IsReadOrArrived world place position

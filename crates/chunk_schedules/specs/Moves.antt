@@ -39,7 +39,7 @@ pub data Move : Type 0 where
   Calls : (place : ℕ) → Call → Move
   -- the service looks at a chunk, and found this of it
   Looks : (chunk word header : ℕ) → Option Found → Move
-  -- it takes a complete chunk of this writer
+  -- it takes a complete chunk of this writer, while it reads no other
   Takes : (place chunk word header : ℕ) → Move
   -- the content of a chunk that it took joins its view
   Learns : (place chunk : ℕ) → Content → Move
@@ -217,7 +217,7 @@ MayMove setup world (Calls place call) = IsWriter world place
 MayMove setup world (Looks chunk word header found) = MayLook setup world chunk word header found
 MayMove setup world (Takes place chunk word header) =
     IsWriter world place × IsChunk world chunk × IsNext world place chunk × SaysUse setup header (status world chunk)
-    × SaysState setup chunk word Complete
+    × SaysState setup chunk word Complete × (world.service.reading ≡ [])
 MayMove setup world (Learns place chunk content) = IsWriter world place × MayLearn world place chunk content
 MayMove setup world (Releases chunk) = IsChunk world chunk × MayRelease world chunk
 MayMove setup world (Notes event) = IsPlainNote event × MayNote world.service event

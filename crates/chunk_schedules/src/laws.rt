@@ -1,6 +1,6 @@
 //! The laws: contracts of functions with nothing to do.
 ghost use Rattle.chunk_schedules.specs.Laws.{SchedulesJoin, SchedulesKeepOwnership, ClaimsInVainFindHad};
-ghost use Rattle.chunk_schedules.specs.Laws.{FreedHaveArrived, ArrivedWereTaken, RequestsAreMadeInTurn};
+ghost use Rattle.chunk_schedules.specs.Laws.{AtMostOneIsRead, FreedHaveArrived, ArrivedWereTaken, RequestsAreMadeInTurn};
 
 /// Schedules go on one behind another, and each front of a schedule is one.
 pub fn schedules_join()
@@ -15,6 +15,11 @@ pub fn schedules_keep_ownership()
 /// Each claim in vain was made where somebody had the chunk.
 pub fn claims_in_vain_find_had()
     ensures { ClaimsInVainFindHad }
+{}
+
+/// The service reads one chunk at most.
+pub fn at_most_one_is_read()
+    ensures { AtMostOneIsRead }
 {}
 
 /// What was taken and is read no longer has arrived.

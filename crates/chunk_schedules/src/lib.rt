@@ -8,6 +8,6 @@
 mod laws;
 
 pub use laws::{
-    arrived_were_taken, claims_in_vain_find_had, freed_have_arrived, requests_are_made_in_turn,
-    schedules_join, schedules_keep_ownership,
+    arrived_were_taken, at_most_one_is_read, claims_in_vain_find_had, freed_have_arrived,
+    requests_are_made_in_turn, schedules_join, schedules_keep_ownership,
 };
