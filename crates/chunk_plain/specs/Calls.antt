@@ -1,5 +1,5 @@
 -- What a call on a table asks of its seat's view, and what it answers, where that is more than one thing.
-use Rattle.std.specs.Prelude.{◌≡◌, ℕ, ◌+◌, ◌-◌, ◌*◌, ◌<◌, ◌≤◌, List, length, vec_len}
+use Rattle.std.specs.Prelude.{◌≡◌, ℕ, ◌+◌, ◌-◌, ◌*◌, ◌<◌, ◌≤◌, List, [], length, vec_len}
 use Rattle.trace_base.specs.declared.limits.TheConstants.{MAX_FRAGMENTS}
 use Rattle.page_geometry.specs.declared.chunk_header.TheConstants.{MAX_FLAGS}
 use Rattle.chunk_plain.specs.declared.tokens.TheConstants.{POSITION_LIMIT}
@@ -44,12 +44,13 @@ pub record MayStoreWords (setup : Setup) (view : WriterView) (chunk position fir
   pub inside : 8 * end < length copy + 8
   pub kept : KeepsSealed view position copy
 
--- the service asks for the next chunk of the writer with this number, by its id
+-- the service asks for the next chunk of the writer with this number, by its id, while it reads none
 pub record AsksForNext (setup : Setup) (view : ServiceView) (chunk writer id : ℕ) : Type 0 where
   pub inside : chunk < length setup.spots
   pub least : 1 ≤ writer
   pub most : writer ≤ length setup.writers
   pub id_is : id ≡ id_at setup (writer - 1) (taken_of view (writer - 1)).count
+  pub none_read : view.reading ≡ []
 
 -- The payload of the chunk was loaded over as many bytes: it begins with what looks found there, and where the service reads the chunk it
 -- is that of a content in the view.

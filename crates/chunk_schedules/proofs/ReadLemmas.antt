@@ -47,7 +47,8 @@ few_keep setup world (Answers place flush chunks) may owned few = few
 few_keep setup world Requests may owned few = few
 few_keep setup world (ReadsAnswer place flush chunks) may owned few = few
 
-all_along : (setup : Setup) (old new : World) (moves : List Move) → IsOwned old → ReadsFew old → IsSchedule setup old moves new → ReadsFew new
+all_along : (setup : Setup) (old new : World) (moves : List Move) → IsOwned old → ReadsFew old → IsSchedule setup old moves new
+    → ReadsFew new
 all_along setup old new [] owned few same = subst ReadsFew (sym same) few
 all_along setup old new (move ∷ moves) owned few schedule =
     all_along setup (behind old move) new moves (move_keeps setup old move schedule.0 owned) (few_keep setup old move schedule.0 owned few)

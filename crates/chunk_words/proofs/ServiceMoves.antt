@@ -253,13 +253,13 @@ module _ (setup : Setup) (count id made : ℕ) (desk : Desk) where
       ap (λ p. id_at setup p known.position) (sym same) ∙ (sym (ap (λ (h : ChunkHeader). h.chunk_id) reads) ∙ id_is) in
       same_position (from_of setup place) known.position next fits (omega (arith, above, fits)) ids
 
-  pub takes_allowed : (place chunk word header mask : ℕ) (v : ServiceView) → chunk < length setup.spots → place < length setup.writers
+  pub takes_allowed : (place chunk word header mask : ℕ) (v : ServiceView) → chunk < length setup.spots → place < length setup.writers → v.reading ≡ []
       → HasState word (spot setup chunk).place state.Complete → (unpacked header).writer_id ≡ place + 1 → (unpacked header).chunk_id ≡ id_at setup place (taken_of v place).count
       → ((found : ℕ) → found < 2 ^ 64 → HasState found (spot setup chunk).place state.Complete → SetsState found (bit_and found mask) (spot setup chunk).place state.BeingRead)
       → ((found : ℕ) → KeepsOthers found (bit_and found mask) (spot setup chunk).place)
       → Allows (IsShared setup) count id (Service 0 made desk (Known chunk word header) v, []) (front_place (spot setup chunk).page) (λ found. bit_and found mask)
       (λ _. Takes setup place chunk (spot setup chunk).payload_size word (unpacked header) (Service 0 made desk (Known chunk word header) v, []))
-  takes_allowed place chunk word header mask v inside inside_w complete writer_is id_is sets keep s r deep at small =
+  takes_allowed place chunk word header mask v inside inside_w none complete writer_is id_is sets keep s r deep at small =
       let at_ = spot setup chunk in let found = get_or s.words (front_place at_.page) 0 in let new = bit_and found mask in
       let world = r.world in let f = r.manned.each id (Service 0 made desk (Known chunk word header) v) at in
       let is = page_is setup s r chunk inside in let c_inside = chunk_inside setup s r chunk inside in
@@ -308,7 +308,8 @@ module _ (setup : Setup) (count id made : ℕ) (desk : Desk) where
           laid = r.laid;
           kept = kept;
           led = led_on setup r.roll.marks world next (TakesMove place chunk word (packed (unpacked header))) r.led
-              (w_inside, c_inside, (content, ready), says_use setup header (status world chunk) (shown_by header (status world chunk) f.5), complete)
+              (w_inside, c_inside, (content, ready), says_use setup header (status world chunk) (shown_by header (status world chunk) f.5), complete,
+              subst (λ (z : ServiceView). z.reading ≡ []) f.0 none)
               (ap (λ t. served world view chunk (read_as t)) ready);
           words = words_front setup s.words r.front r.slots at_.page new (page_front setup s r chunk inside) (front_many setup s r) r.words;
           mail = mail_by_service setup world next (set s.words (front_place at_.page) new) refl refl

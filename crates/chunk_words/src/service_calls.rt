@@ -1,5 +1,5 @@
 //! The calls of the service's seat. None tries again, waits or takes memory.
-ghost use Rattle.std.specs.Prelude.{◌≡◌, ℕ, ◌+◌, ◌-◌, ◌*◌, ◌/◌, ◌<◌, ◌≤◌, None, length, vec_len, IfOk, IfErr};
+ghost use Rattle.std.specs.Prelude.{◌≡◌, ℕ, ◌+◌, ◌-◌, ◌*◌, ◌/◌, ◌<◌, ◌≤◌, None, [], length, vec_len, IfOk, IfErr};
 ghost use Rattle.trace_base.specs.declared.limits.TheConstants.{MAX_FRAGMENTS};
 ghost use Rattle.page_geometry.specs.declared.chunk_header.TheConstants.{MAX_FLAGS};
 ghost use Rattle.chunk_plain.specs.Setup.{spot, from_of};
@@ -158,6 +158,7 @@ impl HostTable {
         requires chunk { chunk < length self.now.layout.spots }
         requires writer { writer < length self.now.layout.writers }
         requires serving { IsServing self.now.layout (service_of seat.old.seat.me.0) }
+        requires none_read { (service_of seat.old.seat.me.0).reading ≡ [] }
         requires next { WatchesNext self.now.layout writer chunk word header seat.old.seat.me }
         ensures size { vec_len result.payload ≡ (spot self.now.layout chunk).payload_size }
         ensures left { ServiceLeaves seat.old seat.new (Serves

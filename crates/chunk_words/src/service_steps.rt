@@ -1,5 +1,5 @@
 //! The steps of the service's seat: each is one atomic step on the table.
-ghost use Rattle.std.specs.Prelude.{◌≡◌, ◌+◌, ◌<◌, length, vec_len, IsSome, IfSome};
+ghost use Rattle.std.specs.Prelude.{◌≡◌, ◌+◌, ◌<◌, [], length, vec_len, IsSome, IfSome};
 ghost use Rattle.page_geometry.specs.Header.{packed};
 ghost use Rattle.page_geometry.specs.PageBits.{HasState};
 ghost use Rattle.page_geometry.specs.declared.chunk_state.ChunkState.TheVariants.{Complete};
@@ -118,6 +118,7 @@ impl HostTable {
         requires seat { CanServe self.now seat.old }
         requires chunk { chunk < length self.now.layout.spots }
         requires writer { writer < length self.now.layout.writers }
+        requires none_read { (service_of seat.old.seat.me.0).reading ≡ [] }
         requires next { WatchesNext self.now.layout writer chunk word header seat.old.seat.me }
         ensures { ServiceLeaves seat.old seat.new (Takes self.now.layout writer chunk (spot self.now.layout chunk).payload_size
             word header) }

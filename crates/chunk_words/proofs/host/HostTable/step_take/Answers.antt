@@ -17,7 +17,7 @@ pub make_and-requires-clause-allowed : goal.make_and-requires-clause-allowed
 make_and-requires-clause-allowed c =
     let self = c.args.self.now in let seat = c.args.seat.now.seat in let k = seat.me.0 in let mask = c.take_mask.result in let header = c.args.header in
     let fields = c.requires.next.fields in
-    let fact = takes_allowed self.layout self.table.shared.table_id.slots seat.id (made_of k) (desk_of k) c.args.writer c.args.chunk c.args.word (packed header) mask (service_of k) c.requires.chunk c.requires.writer c.requires.next.complete
+    let fact = takes_allowed self.layout self.table.shared.table_id.slots seat.id (made_of k) (desk_of k) c.args.writer c.args.chunk c.args.word (packed header) mask (service_of k) c.requires.chunk c.requires.writer c.requires.none_read c.requires.next.complete
     (ap (λ (h : ChunkHeader). h.writer_id) fields ∙ c.requires.next.writer_is) (ap (λ (h : ChunkHeader). h.chunk_id) fields ∙ c.requires.next.next)
     (subst (λ (s : Spot). (found : _) → found < 2 ^ 64 → HasState found s.place Complete → SetsState found (bit_and found mask) s.place BeingRead) c.spot-spot.ensures.spot c.take_mask.ensures.step)
     (subst (λ (s : Spot). (found : _) → KeepsOthers found (bit_and found mask) s.place) c.spot-spot.ensures.spot c.take_mask.ensures.others) in
