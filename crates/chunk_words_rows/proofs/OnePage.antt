@@ -6,7 +6,9 @@ use Rattle.page_geometry.specs.declared.geometry.Geometry.{Geometry}
 use Rattle.chunk_plain.specs.declared.setup.ProducerSpec.{ProducerSpec}
 use Rattle.chunk_plain.specs.Setup.{Setup, IsLaid, HasProducer, IsChunkOf, producer_of, from_of, size_of, spot}
 use Rattle.chunk_plain.specs.Laying.{setup_of}
-use Rattle.chunk_plain.specs.Views.{ServiceView, taken_of}
+use Rattle.chunk_plain.specs.Views.{Taken, none_taken, ServiceView, taken_of}
+use Rattle.chunk_plain.specs.Words.{AllArrived}
+use Rattle.chunk_plain.proofs.MadeLemmas.{all_same}
 use Rattle.chunk_plain.specs.Plain.{first_world}
 use Rattle.chunk_words.specs.declared.host.HostTable.{HostTable}
 use Rattle.chunk_words.specs.declared.seats.ServiceSeat.{ServiceSeat}
@@ -62,11 +64,17 @@ one_page table geometry is size many =
       sizes = sizes;
     }
 
+-- of a table as it is made nothing was taken
+first_arrived : (setup : Setup) → AllArrived (first_world setup).service
+first_arrived setup place position low =
+    absurd (let none = ap (λ (t : Taken). t.count) (all_same none_taken setup.writers place) in omega (arith, low, none))
+
 pub none_taken_yet : (table : HostTable) (seat : ServiceSeat) (geometry : Geometry) (spec : WriterSpec) → setup_in table ≡ page_setup geometry spec
     → service_of seat.seat.me.0 ≡ (first_world (setup_in table)).service → HasTaken 0 seat
 none_taken_yet table seat geometry spec is first = record {
   count_is = ap (λ (v : ServiceView). (taken_of v 0).count) first ∙ ap (λ (s : Setup). (taken_of (first_world s).service 0).count) is;
   none_out = ap (λ (v : ServiceView). v.reading) first;
+  arrived = subst AllArrived (sym first) (first_arrived (setup_in table));
 }
 
 pub neither_taken : (table : HostTable) (seat : ServiceSeat) (geometry : Geometry) (spec : WriterSpec) → setup_in table ≡ page_setup geometry spec
@@ -75,4 +83,5 @@ neither_taken table seat geometry spec is first = record {
   first_is = ap (λ (v : ServiceView). (taken_of v 0).count) first ∙ ap (λ (s : Setup). (taken_of (first_world s).service 0).count) is;
   second_is = ap (λ (v : ServiceView). (taken_of v 1).count) first ∙ ap (λ (s : Setup). (taken_of (first_world s).service 1).count) is;
   none_out = ap (λ (v : ServiceView). v.reading) first;
+  arrived = subst AllArrived (sym first) (first_arrived (setup_in table));
 }

@@ -1,8 +1,9 @@
--- The service takes a chunk of the first writer and lets it go.
-use Rattle.std.proofs.Common.{◌≡◌, ℕ, ◌+◌, ◌<◌, Option, List, [], ◌∷◌, ◌++◌, length, ap, ◌∙◌, arith, get_or-set_same, length-set}
+-- The service takes a chunk of the first writer, notes that it arrived, and lets it go.
+use Rattle.std.proofs.Common.{◌≡◌, ℕ, ◌+◌, ◌<◌, Option, List, [], ◌∷◌, ◌++◌, length, sym, ap, subst, ◌∙◌, arith, get_or-set_same, length-set}
 use Rattle.std.proofs.lemmas.Bool.Decides.{nat_tests}
-use Rattle.chunk_plain.specs.Views.{Content, Found, Taken, none_taken, ServiceView, taken_of}
-use Rattle.chunk_plain.specs.Steps.{without, looks_at, takes_in, learns, lets_go}
+use Rattle.chunk_plain.specs.Views.{Content, Found, Taken, none_taken, Noted, ServiceView, taken_of}
+use Rattle.chunk_plain.specs.Steps.{without, looks_at, takes_in, learns, lets_go, notes}
+use Rattle.chunk_plain.specs.Words.{AllArrived}
 use Rattle.chunk_words.specs.declared.seats.ServiceSeat.{ServiceSeat}
 use Rattle.chunk_words.specs.Knows.{service_of}
 use Rattle.chunk_words_rows.specs.Page.{HasTaken}
@@ -25,21 +26,24 @@ pub looked : (old new : ServiceSeat) (chunk word header count : ℕ) (found : Op
 looked old new chunk word header count found has is = record {
   count_is = ap (λ (v : ServiceView). (taken_of v 0).count) is ∙ has.count_is;
   none_out = ap (λ (v : ServiceView). v.reading) is ∙ has.none_out;
+  arrived = subst AllArrived (sym is) has.arrived;
 }
 
 pub loaded : (old new : ServiceSeat) (count : ℕ) → HasTaken count old → service_of new.seat.me.0 ≡ service_of old.seat.me.0 → HasTaken count new
 loaded old new count has is = record {
   count_is = ap (λ (v : ServiceView). (taken_of v 0).count) is ∙ has.count_is;
   none_out = ap (λ (v : ServiceView). v.reading) is ∙ has.none_out;
+  arrived = subst AllArrived (sym is) has.arrived;
 }
 
-pub served : (old took new : ServiceSeat) (chunk taken_chunk word header count : ℕ) (found : Option Found) (content : Content) → HasTaken count old
+pub served : (old took new : ServiceSeat) (chunk taken_chunk word header count : ℕ) (found : Option Found) (content : Content) (note : Noted) → HasTaken count old
     → 0 < length (service_of old.seat.me.0).taken
     → service_of took.seat.me.0 ≡ learns (takes_in (looks_at (service_of old.seat.me.0) chunk word header found) 0 chunk) 0 content → taken_chunk ≡ chunk
-    → service_of new.seat.me.0 ≡ lets_go (service_of took.seat.me.0) taken_chunk → HasTaken (count + 1) new
-served old took new chunk taken_chunk word header count found content has some is same gone = record {
+    → service_of new.seat.me.0 ≡ lets_go (notes (service_of took.seat.me.0) note) taken_chunk → AllArrived (service_of new.seat.me.0) → HasTaken (count + 1) new
+served old took new chunk taken_chunk word header count found content note has some is same gone arrived = record {
   count_is = ap (λ (v : ServiceView). (taken_of v 0).count) gone ∙ (ap (λ (v : ServiceView). (taken_of v 0).count) is
       ∙ (count_more (looks_at (service_of old.seat.me.0) chunk word header found) chunk content some ∙ ap (λ n. n + 1) has.count_is));
   none_out = ap (λ (v : ServiceView). v.reading) gone ∙ (ap (λ c. without c (service_of took.seat.me.0).reading) same ∙ (ap (λ (v : ServiceView). without chunk v.reading) is
       ∙ (ap (λ (l : List ℕ). without chunk (l ++ chunk ∷ [])) has.none_out ∙ none_left chunk)));
+  arrived = arrived;
 }

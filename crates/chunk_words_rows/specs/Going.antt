@@ -2,6 +2,7 @@
 use Rattle.std.specs.Prelude.{◌≡◌, ◌≢◌, ℕ, ◌+◌, []}
 use Rattle.trace_base.specs.declared.policy.WriterPolicy.TheVariants.{Drops}
 use Rattle.chunk_plain.specs.Views.{taken_of}
+use Rattle.chunk_plain.specs.Words.{AllArrived}
 use Rattle.chunk_words.specs.declared.host.HostTable.{HostTable}
 use Rattle.chunk_words.specs.declared.seats.ServiceSeat.{ServiceSeat}
 use Rattle.chunk_words.specs.Knows.{service_of}
@@ -14,13 +15,15 @@ pub record IsReady (table : HostTable) (writer : TraceWriter) : Type 0 where
   pub writes : Writes table writer
   pub drops : (route_of (core_of writer)).spec.policy ≡ Drops
 
--- the service took one chunk more of the writer at this place, and let it go
+-- the service took one chunk more of the writer at this place, noted that it arrived, and let it go
 pub record TakesOne (place : ℕ) (old new : ServiceSeat) : Type 0 where
   pub more : (taken_of (service_of new.seat.me.0) place).count ≡ (taken_of (service_of old.seat.me.0) place).count + 1
   pub others : (other : ℕ) → other ≢ place → (taken_of (service_of new.seat.me.0) other).count ≡ (taken_of (service_of old.seat.me.0) other).count
   pub none_out : (service_of new.seat.me.0).reading ≡ []
+  pub arrived : AllArrived (service_of new.seat.me.0)
 
 -- it took none
 pub record TakesNone (old new : ServiceSeat) : Type 0 where
   pub all : (place : ℕ) → (taken_of (service_of new.seat.me.0) place).count ≡ (taken_of (service_of old.seat.me.0) place).count
   pub none_out : (service_of new.seat.me.0).reading ≡ []
+  pub arrived : AllArrived (service_of new.seat.me.0)

@@ -4,6 +4,7 @@ use Rattle.trace_base.specs.declared.policy.WriterPolicy.TheVariants.{Drops}
 use Rattle.trace_base.specs.declared.policy.WriterSpec.{WriterSpec}
 use Rattle.chunk_plain.specs.Setup.{HasProducer, IsChunkOf, producer_of, from_of, spot}
 use Rattle.chunk_plain.specs.Views.{taken_of}
+use Rattle.chunk_plain.specs.Words.{AllArrived}
 use Rattle.chunk_words.specs.declared.host.HostTable.{HostTable}
 use Rattle.chunk_words.specs.declared.seats.ServiceSeat.{ServiceSeat}
 use Rattle.chunk_words.specs.Knows.{service_of}
@@ -25,13 +26,15 @@ pub record IsOnePage (table : HostTable) : Type 0 where
   pub froms : (place : ℕ) → place < 2 → from_of (setup_in table) place ≡ 4294967000
   pub sizes : (chunk : ℕ) → IsChunkOf (setup_in table) 1 chunk → (spot (setup_in table) chunk).payload_size ≡ 284
 
--- the service has taken so many chunks of the first writer, and reads none
+-- the service has taken so many chunks of the first writer, all that it took has arrived, and it reads none
 pub record HasTaken (count : ℕ) (seat : ServiceSeat) : Type 0 where
   pub count_is : (taken_of (service_of seat.seat.me.0) 0).count ≡ count
   pub none_out : (service_of seat.seat.me.0).reading ≡ []
+  pub arrived : AllArrived (service_of seat.seat.me.0)
 
--- the service has taken so many chunks of each of the two writers, and reads none
+-- the same of each of the two writers
 pub record HasTakenOf (first second : ℕ) (seat : ServiceSeat) : Type 0 where
   pub first_is : (taken_of (service_of seat.seat.me.0) 0).count ≡ first
   pub second_is : (taken_of (service_of seat.seat.me.0) 1).count ≡ second
   pub none_out : (service_of seat.seat.me.0).reading ≡ []
+  pub arrived : AllArrived (service_of seat.seat.me.0)

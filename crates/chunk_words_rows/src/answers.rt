@@ -1,5 +1,5 @@
 //! Flush requests and their answers: the service asks with the reading pass, and a writer answers.
-ghost use Rattle.std.specs.Prelude.{◌≡◌, ◌+◌, ◌<◌, false};
+ghost use Rattle.std.specs.Prelude.{◌≡◌, ◌+◌, ◌<◌, false, []};
 ghost use Rattle.chunk_plain.specs.Views.{asked_in};
 ghost use Rattle.chunk_words.specs.Knows.{service_of};
 ghost use Rattle.chunk_words.specs.Sits.{Attends, Passes};
@@ -35,8 +35,10 @@ fn ask(host: &HostTable, service: &mut ServiceSeat, pass: &mut ReadPass, flush: 
     requires service { Attends host.now service.old }
     requires pass { Passes host.now pass.old }
     requires next { flush ≡ asked_in (service_of service.old.seat.me.0).letters + 1 }
+    requires none_read { (service_of service.old.seat.me.0).reading ≡ [] }
     ensures service { Attends host.now service.new }
     ensures pass { Passes host.now pass.new }
+    ensures none_read { (service_of service.new.seat.me.0).reading ≡ [] }
     ensures asked { asked_in (service_of service.new.seat.me.0).letters ≡ flush }
 {
     host.note_request(service, pass, flush);
@@ -46,7 +48,9 @@ fn ask(host: &HostTable, service: &mut ServiceSeat, pass: &mut ReadPass, flush: 
 fn answered(host: &HostTable, service: &mut ServiceSeat) -> (u32, u32)
     requires page { IsOnePage host.now }
     requires service { Attends host.now service.old }
+    requires none_read { (service_of service.old.seat.me.0).reading ≡ [] }
     ensures service { Attends host.now service.new }
+    ensures none_read { (service_of service.new.seat.me.0).reading ≡ [] }
     ensures asked { asked_in (service_of service.new.seat.me.0).letters ≡ asked_in (service_of service.old.seat.me.0).letters }
 {
     host.answered(service, 1)
@@ -90,6 +94,7 @@ fn answer_all<L: Ledger>(
     requires service { Attends host.now service.old }
     requires pass { Passes host.now pass.old }
     requires none_asked { asked_in (service_of service.old.seat.me.0).letters ≡ 0 }
+    requires none_read { (service_of service.old.seat.me.0).reading ≡ [] }
     requires name { blank.name ≡ L.name }
     requires parts { blank.parts ≡ L.parts }
     requires some_part { 0 < L.parts }
@@ -134,6 +139,7 @@ fn answer_counted(
     requires service { Attends host.now service.old }
     requires pass { Passes host.now pass.old }
     requires none_asked { asked_in (service_of service.old.seat.me.0).letters ≡ 0 }
+    requires none_read { (service_of service.old.seat.me.0).reading ≡ [] }
     ensures service { Attends host.now service.new }
     ensures pass { Passes host.now pass.new }
 {

@@ -6,6 +6,8 @@
 #[cfg(test)]
 mod answers;
 #[cfg(test)]
+mod giving;
+#[cfg(test)]
 mod serving;
 #[cfg(test)]
 mod threads;

@@ -5,6 +5,7 @@ ghost use Rattle.chunk_words.specs.Sits.{Attends};
 ghost use Rattle.chunk_words_rows.specs.Fresh.{IsFreshSeat};
 ghost use Rattle.chunk_words_rows.specs.Page.{IsOnePage, HasTaken};
 
+use crate::giving::give_back;
 use crate::threads::{FROM, both, fill_page, make};
 use chunk_words::{HostTable, ServiceSeat, WriterSeat};
 use page_geometry::PageWord;
@@ -30,7 +31,7 @@ fn serve(host: &HostTable, seat: &mut ServiceSeat, chunk: u32, next: u32, into: 
     host.load(seat, chunk, into);
     match host.take(seat, chunk, 1, id_of(FROM, next)) {
         Ok(taken) => {
-            host.release(seat, taken);
+            give_back(host, seat, taken, 1, next);
             next + 1
         }
         Err(_) => next,

@@ -4,6 +4,7 @@ ghost use Rattle.chunk_words.specs.Sits.{Attends};
 ghost use Rattle.chunk_words_rows.specs.Fresh.{IsFreshSeat};
 ghost use Rattle.chunk_words_rows.specs.Page.{IsOnePage, HasTaken};
 
+use crate::giving::give_back;
 use crate::threads::{FROM, both, make};
 use chunk_words::{HostTable, ServiceSeat, WriterSeat};
 use page_geometry::PageWord;
@@ -56,7 +57,7 @@ fn taken(host: &HostTable, service: &mut ServiceSeat) -> Option<(u64, u64)>
         return None;
     };
     let PageWord(taken_word) = host.look(service, 0).word;
-    host.release(service, taken);
+    give_back(host, service, taken, 1, 0);
     let PageWord(released_word) = host.look(service, 0).word;
     Some((taken_word, released_word))
 }

@@ -4,6 +4,7 @@ ghost use Rattle.std.specs.Prelude.{◌≡◌, ℕ, ◌+◌, ◌-◌, ◌<◌, �
 ghost use Rattle.page_geometry.specs.Sizes.{payload_size};
 ghost use Rattle.chunk_plain.specs.declared.tokens.TheConstants.{POSITION_LIMIT};
 ghost use Rattle.chunk_plain.specs.Views.{newcomer, taken_of};
+ghost use Rattle.chunk_plain.specs.Words.{AllArrived};
 ghost use Rattle.chunk_words.specs.Knows.{service_of};
 ghost use Rattle.chunk_words.specs.Sits.{Sits, Attends, known_by};
 ghost use Rattle.trace_writer.specs.declared.ids.TheConstants.{PACKET_IDS};
@@ -13,6 +14,7 @@ ghost use Rattle.chunk_words_rows.specs.Fresh.{IsFreshSeat};
 ghost use Rattle.chunk_words_rows.specs.Page.{IsOnePage, HasTakenOf};
 ghost use Rattle.chunk_words_rows.specs.Going.{IsReady, TakesOne, TakesNone};
 
+use crate::giving::give_back;
 use crate::threads::{FROM, both, make};
 use chunk_words::{HostTable, ServiceSeat, WriterSeat};
 use claim_arbiter::Arbiter;
@@ -148,6 +150,7 @@ fn take_one(
     requires most { writer ≤ 2 }
     requires position { position ≡ (taken_of (service_of seat.old.seat.me.0) (writer - 1)).count }
     requires none_out { (service_of seat.old.seat.me.0).reading ≡ [] }
+    requires arrived { AllArrived (service_of seat.old.seat.me.0) }
     ensures seat { Attends host.now seat.new }
     ensures taken { IfSome result (λ _. TakesOne (writer - 1) seat.old seat.new) }
     ensures other { IfNone result (TakesNone seat.old seat.new) }
@@ -155,7 +158,7 @@ fn take_one(
     match host.take(seat, chunk, writer, id_of(FROM, position)) {
         Ok(taken) => {
             let count = taken.header.count;
-            host.release(seat, taken);
+            give_back(host, seat, taken, writer, position);
             Some(count)
         }
         Err(_) => None,

@@ -8,3 +8,6 @@ pub returns-clause-asked : goal.returns-clause-asked
 returns-clause-asked c =
     ap (λ (v : ServiceView). asked_in v.letters) c.answered.ensures.view
     ∙ asked_heard (service_of c.args.service.now.seat.me.0).letters _ _ _
+
+pub returns-clause-none_read : goal.returns-clause-none_read
+returns-clause-none_read c = ap (λ (v : ServiceView). v.reading) c.answered.ensures.view ∙ c.requires.none_read

@@ -7,4 +7,7 @@ use Rattle.chunk_words_rows.proofs.answers.ask.Goals as goal
 pub returns-clause-asked : goal.returns-clause-asked
 returns-clause-asked c =
     ap (λ (v : ServiceView). asked_in v.letters) c.note_request.ensures.view
-    ∙ (asked_more (service_of c.args.service.now.seat.me.0).letters ∙ sym c.requires.next)
+    ∙ (asked_more (service_of c.args.service.now.seat.me.0).letters _ ∙ sym c.requires.next)
+
+pub returns-clause-none_read : goal.returns-clause-none_read
+returns-clause-none_read c = ap (λ (v : ServiceView). v.reading) c.note_request.ensures.view ∙ c.requires.none_read
