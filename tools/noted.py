@@ -269,7 +269,7 @@ class Service(service.Service):
     # Of a run
 
     def note_request(self):
-        self.letters.append(('Asked',))
+        self.letters.append(('Asked', len(recorder.WHOLE.events)))
         super().note_request()
 
     def poll(self, writer):

@@ -98,12 +98,18 @@ class Run(Account):
     def __init__(self, name, played):
         super().__init__(name, played)
         self.service, self.done = played.service, played.done
-        self.done_events = len(accounts.events_in(accounts.recorder.WHOLE.events[:played.done.events]))
+        self.done_events = events_before(played.done.events)
+        self.letters = [('Asked', events_before(rest[0])) if kind == 'Asked' else (kind, *rest) for kind, *rest in played.service.letters]
         for writer, count in zip(self.writers, played.done.calls):
             writer.calls = writer.writer.calls[:count]      # (the end flushes once more)
 
     def lines_of(self, kind):
         return [line for line in self.scenario.lines if line.kind == kind]
+
+
+def events_before(noted):
+    """How many events there were when so many lines of them were noted."""
+    return len(accounts.events_in(accounts.recorder.WHOLE.events[:noted]))
 
 
 def asked_by_lines(run):
@@ -121,10 +127,18 @@ def letters_term(writer):
     return record(known=writer.answers[-1][0] if writer.answers else 0, answers=answers)
 
 
+def letter_term(letter):
+    """What the service knows of flush requests: a request that it made behind so many events, or an answer that it read."""
+    kind, *rest = letter
+    if kind == 'Asked':
+        return f'views.Asked {rest[0]}'
+    return f'views.Heard {rest[0]} {rest[1]} {rest[2]}'
+
+
 def run_specs(run):
     name = run.name
     looks = [accounts.look_term(event) for event in run.events if event[0] == 'partial']
-    letters = listed('views.Asked' if one[0] == 'Asked' else f'views.Heard {one[1]} {one[2]} {one[3]}' for one in run.service.letters)
+    letters = listed(map(letter_term, run.letters))
     done_looks = sum(event[0] == 'partial' for event in run.events[:run.done_events])
     views = ''.join(view_specs(writer, listed(map(ask_term, writer.writer.asks)), writer.calls, letters_term(writer.writer)) for writer in run.writers)
     return (views + service_spec(run, looks, letters) + define(f'scenario_{name}', 'Parts', scenario_term(run.scenario))
@@ -136,7 +150,7 @@ def run_specs(run):
 
 def answered_proof(run):
     """Of each writer the service has read an answer to the last request."""
-    letters, requests = run.service.letters, len(run.service.requests)
+    letters, requests = run.letters, len(run.service.requests)
     if not requests:
         return record(requests='refl', last='λ some place below. absurd (omega (arith, some))')
     shown = []
