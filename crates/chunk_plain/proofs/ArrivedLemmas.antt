@@ -13,6 +13,16 @@ use Rattle.chunk_plain.specs.Setup.{Setup, sequence_of}
 use Rattle.chunk_plain.specs.Views.{Content, Taken, none_taken, Noted, Arrive, ServiceView, taken_of}
 use Rattle.chunk_plain.specs.Steps.{looks_at, takes_in, learns}
 use Rattle.chunk_plain.specs.Words.{is_arrival_note, is_arrival_noted, AllArrived, OthersArrived, LacksArrival, taken_content, TakesChunk}
+use Rattle.chunk_plain.specs.Plain.{first_world}
+use Rattle.chunk_plain.proofs.MadeLemmas.{all_same}
+
+-- where nothing was taken nothing lacks
+pub none_lacks : (view : ServiceView) → ((place : ℕ) → (taken_of view place).count ≡ 0) → AllArrived view
+none_lacks view none place position low = absurd (let nothing = none place in omega (arith, low, nothing))
+
+-- as at a table that nobody has used
+pub first_arrived : (setup : Setup) → AllArrived (first_world setup).service
+first_arrived setup = none_lacks (first_world setup).service (λ place. ap (λ (t : Taken). t.count) (all_same none_taken setup.writers place))
 
 -- what has arrived has so behind more notes
 pub arrival_stays : (sequence position : ℕ) (notes more : List Noted) → is_arrival_noted sequence position notes ≡ true

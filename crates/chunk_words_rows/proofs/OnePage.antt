@@ -6,9 +6,9 @@ use Rattle.page_geometry.specs.declared.geometry.Geometry.{Geometry}
 use Rattle.chunk_plain.specs.declared.setup.ProducerSpec.{ProducerSpec}
 use Rattle.chunk_plain.specs.Setup.{Setup, IsLaid, HasProducer, IsChunkOf, producer_of, from_of, size_of, spot}
 use Rattle.chunk_plain.specs.Laying.{setup_of}
-use Rattle.chunk_plain.specs.Views.{Taken, none_taken, ServiceView, taken_of}
+use Rattle.chunk_plain.specs.Views.{ServiceView, taken_of}
 use Rattle.chunk_plain.specs.Words.{AllArrived}
-use Rattle.chunk_plain.proofs.MadeLemmas.{all_same}
+use Rattle.chunk_plain.proofs.ArrivedLemmas.{first_arrived}
 use Rattle.chunk_plain.specs.Plain.{first_world}
 use Rattle.chunk_words.specs.declared.host.HostTable.{HostTable}
 use Rattle.chunk_words.specs.declared.seats.ServiceSeat.{ServiceSeat}
@@ -63,11 +63,6 @@ one_page table geometry is size many =
       froms = λ place below. ap (λ (s : Setup). from_of s place) is ∙ first_from geometry place below;
       sizes = sizes;
     }
-
--- of a table as it is made nothing was taken
-first_arrived : (setup : Setup) → AllArrived (first_world setup).service
-first_arrived setup place position low =
-    absurd (let none = ap (λ (t : Taken). t.count) (all_same none_taken setup.writers place) in omega (arith, low, none))
 
 pub none_taken_yet : (table : HostTable) (seat : ServiceSeat) (geometry : Geometry) (spec : WriterSpec) → setup_in table ≡ page_setup geometry spec
     → service_of seat.seat.me.0 ≡ (first_world (setup_in table)).service → HasTaken 0 seat
