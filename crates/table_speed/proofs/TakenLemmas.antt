@@ -13,12 +13,14 @@ pub none_yet : (seat : ServiceSeat) → HasTakenNone seat → HasTakenEach (repl
 none_yet seat none = record {
   counts_are = λ place below. none.counts_are place below ∙ sym (zeros 4 place);
   none_out = none.none_out;
+  arrived = none.arrived;
 }
 
 pub as_before : (counts : List ℕ) (old new : ServiceSeat) → HasTakenEach counts old → TakesNone old new → HasTakenEach counts new
 as_before counts old new each none = record {
   counts_are = λ place below. none.all place ∙ each.counts_are place below;
   none_out = none.none_out;
+  arrived = none.arrived;
 }
 
 pub one_more : (counts : List ℕ) (old new : ServiceSeat) (place more : ℕ) → place < length counts → more ≡ count_of old place + 1
@@ -28,4 +30,5 @@ one_more counts old new place more inside is each one = record {
       (λ same. subst (λ p. count_of new p ≡ more) (sym same) (one.more ∙ sym is))
       (λ differs. one.others other differs ∙ each.counts_are other below);
   none_out = one.none_out;
+  arrived = one.arrived;
 }

@@ -8,7 +8,9 @@ use Rattle.chunk_plain.specs.Setup.{Setup, IsLaid, HasProducer, IsChunkOf, produ
 use Rattle.chunk_plain.specs.Laying.{setup_of}
 use Rattle.chunk_plain.specs.Views.{ServiceView, Taken, taken_of}
 use Rattle.chunk_plain.specs.Views as view
+use Rattle.chunk_plain.specs.Words.{AllArrived}
 use Rattle.chunk_plain.proofs.MadeLemmas.{all_same}
+use Rattle.chunk_plain.proofs.ArrivedLemmas.{first_arrived}
 use Rattle.chunk_plain.specs.Plain.{first_world}
 use Rattle.chunk_words.specs.declared.host.HostTable.{HostTable}
 use Rattle.chunk_words.specs.declared.seats.ServiceSeat.{ServiceSeat}
@@ -119,6 +121,7 @@ pub none_taken : (table : HostTable) (seat : ServiceSeat) → service_of seat.se
 none_taken table seat first = record {
   counts_are = λ place below. ap (λ (v : ServiceView). (taken_of v place).count) first ∙ ap (λ (t : Taken). t.count) (all_same view.none_taken (setup_in table).writers place);
   none_out = ap (λ (v : ServiceView). v.reading) first;
+  arrived = subst AllArrived (sym first) (first_arrived (setup_in table));
 }
 
 -- the first chunk of a writer's producer

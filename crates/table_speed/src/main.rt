@@ -6,6 +6,7 @@
 //! times it.
 #![tactic(auto)]
 
+mod giving;
 mod payload;
 mod places;
 mod polls;

@@ -1,11 +1,13 @@
 //! The service beside the writers: it takes what is next of each, until they have ended and nothing
 //! is left.
 ghost use Rattle.std.specs.Prelude.{◌≡◌, ◌-◌, ◌<◌, ◌≤◌, [], length, IfSome, IfNone};
+ghost use Rattle.chunk_plain.specs.Words.{AllArrived};
 ghost use Rattle.chunk_words.specs.Knows.{service_of};
 ghost use Rattle.chunk_words.specs.Sits.{Attends, setup_in};
 ghost use Rattle.table_speed.specs.Taking.{HasTakenEach, HasTakenNone, TakesOne, TakesNone, count_of};
 ghost use Rattle.table_speed.specs.Timed.{BeginAtNought, BeginsAtNought};
 
+use crate::giving::give_back;
 use chunk_words::{HostTable, ServiceSeat};
 use page_geometry::ChunkHeader;
 use std::sync::atomic::{AtomicU64, Ordering};
@@ -14,8 +16,8 @@ use trace_base::ids::id_of;
 /// The chunks of all pages.
 const CHUNKS: u32 = 224;
 
-/// Takes the chunk, if it is the next one of the writer with this number, and lets it go. It answers
-/// the chunk's fragments.
+/// Takes the chunk, if it is the next one of the writer with this number, notes that it arrived, and
+/// lets it go. It answers the chunk's fragments.
 pub fn take_one(
     host: &HostTable,
     seat: &mut ServiceSeat,
@@ -28,6 +30,7 @@ pub fn take_one(
     requires writer { BeginsAtNought host.now writer }
     requires position { position ≡ count_of seat.old (writer - 1) }
     requires none_out { (service_of seat.old.seat.me.0).reading ≡ [] }
+    requires arrived { AllArrived (service_of seat.old.seat.me.0) }
     ensures seat { Attends host.now seat.new }
     ensures taken { IfSome result (λ _. TakesOne (writer - 1) seat.old seat.new) }
     ensures other { IfNone result (TakesNone seat.old seat.new) }
@@ -35,7 +38,7 @@ pub fn take_one(
     match host.take(seat, chunk, writer, id_of(0, position)) {
         Ok(taken) => {
             let count = taken.header.count;
-            host.release(seat, taken);
+            give_back(host, seat, taken, writer, position);
             Some(count)
         }
         Err(_) => None,
@@ -47,6 +50,7 @@ fn find(host: &HostTable, seat: &mut ServiceSeat, chunk: u32) -> ChunkHeader
     requires seat { Attends host.now seat.old }
     requires chunk { chunk < length (setup_in host.now).spots }
     requires none_out { (service_of seat.old.seat.me.0).reading ≡ [] }
+    requires arrived { AllArrived (service_of seat.old.seat.me.0) }
     ensures seat { Attends host.now seat.new }
     ensures none { TakesNone seat.old seat.new }
 {
