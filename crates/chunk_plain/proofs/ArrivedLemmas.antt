@@ -1,5 +1,5 @@
 -- Which of the chunks that were taken have arrived, behind more notes and where one more is taken.
-use Rattle.std.proofs.Common.{◌≡◌, ◌≢◌, ℕ, ◌+◌, ◌-◌, ◌<◌, ◌⊎◌, inl, inr, Bool, true, ◌&&◌, ◌||◌, List, [], ◌∷◌, ◌++◌, length, set, None, subst, sym, refl, ap, ◌∙◌, arith, ⊎_elim, length-set}
+use Rattle.std.proofs.Common.{◌≡◌, ◌≢◌, ℕ, ◌+◌, ◌-◌, ◌<◌, ◌⊎◌, inl, inr, Bool, true, ◌&&◌, ◌||◌, List, [], ◌∷◌, ◌++◌, length, get_or, set, None, subst, sym, refl, ap, ◌∙◌, arith, ⊎_elim, length-set}
 use Rattle.std.specs.Prelude.{◌==◌}
 use Rattle.std.proofs.Math.Bool.{or-true}
 use Rattle.std.proofs.lemmas.Bool.{eq-eqb}
@@ -43,6 +43,12 @@ here sequence position notes more =
 -- behind more notes all have arrived still
 pub arrived_on : (view : ServiceView) (more : List Noted) → AllArrived view → AllArrived (record view { events = view.events ++ more })
 arrived_on view more all place position low = arrival_stays (sequence_of place) position view.events more (all place position low)
+
+-- and where the same is taken and noted
+pub arrived_alike : (old new : ServiceView) → new.taken ≡ old.taken → new.events ≡ old.events → AllArrived old → AllArrived new
+arrived_alike old new taken events all place position low =
+    subst (λ (notes : List Noted). is_arrival_noted (sequence_of place) position notes ≡ true) (sym events)
+    (all place position (subst (λ (rows : List Taken). position < (get_or rows place none_taken).count) taken low))
 
 -- where all but one have, and the arrival of that one is noted, all have
 pub all_arrived : (view : ServiceView) (place position : ℕ) (more : List Noted) → OthersArrived view place position

@@ -3,8 +3,10 @@ use Rattle.std.proofs.Common.{◌≡◌, ◌∙◌, ℕ, Bool, Option, if◌then
 use Rattle.std.proofs.lemmas.Bool.{eq-eqb}
 use Rattle.chunk_plain.specs.declared.setup.ChunkRange.{ChunkRange}
 use Rattle.chunk_plain.specs.Setup.{Setup, from_of}
-use Rattle.chunk_plain.specs.Views.{Content, Found, ServiceView, Taken, none_taken}
-use Rattle.chunk_plain.specs.Steps.{without, looks_at, takes_in, learns, lets_go}
+use Rattle.chunk_plain.specs.Views.{Content, Found, Noted, ServiceView, Taken, none_taken}
+use Rattle.chunk_plain.specs.Steps.{without, looks_at, takes_in, learns, notes, lets_go}
+use Rattle.chunk_plain.specs.Words.{AllArrived}
+use Rattle.chunk_plain.proofs.ArrivedLemmas.{arrived_alike}
 use Rattle.chunk_plain.specs.Meaning.{Meaning}
 use Rattle.writer_speed.specs.Collecting.{IsCollecting}
 
@@ -27,23 +29,26 @@ module _ {T W S : Type 0} (means : Meaning T W S) where
   -- nothing is taken
   pub collects_still : (old : T) (before : S) (new : T) (after : S) (range : ChunkRange) (taken : ℕ) → IsCollecting means old before range taken
       → means.serves new after → means.setup new ≡ means.setup old → (means.service_view new after).taken ≡ (means.service_view old before).taken
-      → (means.service_view new after).reading ≡ (means.service_view old before).reading → IsCollecting means new after range taken
-  collects_still old before new after range taken was seat_is same rows reading = record {
+      → (means.service_view new after).reading ≡ (means.service_view old before).reading
+      → (means.service_view new after).events ≡ (means.service_view old before).events → IsCollecting means new after range taken
+  collects_still old before new after range taken was seat_is same rows reading events = record {
     seat_is = seat_is;
     writers = subst (λ (s : Setup). 1 ≤ length s.writers) (sym same) was.writers;
     chunks = subst (λ (s : Setup). range.first + range.count ≤ length s.spots) (sym same) was.chunks;
     listed = subst (λ (l : List Taken). 0 < length l) (sym rows) was.listed;
     none_out = reading ∙ was.none_out;
+    arrived = arrived_alike (means.service_view old before) (means.service_view new after) rows events was.arrived;
     from = ap (λ (s : Setup). from_of s 0) same ∙ was.from;
     count = was.count ∙ ap (λ (l : List Taken). (get_or l 0 none_taken).count) (sym rows);
   }
 
-  -- a chunk is taken, and let go
+  -- a chunk is taken, noted to have arrived, and let go
   pub collects_one : (old : T) (before : S) (new : T) (after : S) (range : ChunkRange) (taken : ℕ) → IsCollecting means old before range taken
-      → means.serves new after → means.setup new ≡ means.setup old → (mid : ServiceView) (chunk word header freed : ℕ) (found : Option Found) (content : Content)
+      → means.serves new after → means.setup new ≡ means.setup old → (mid : ServiceView) (chunk word header freed : ℕ) (found : Option Found) (content : Content) (note : Noted)
       → mid ≡ learns (takes_in (looks_at (means.service_view old before) chunk word header found) 0 chunk) 0 content → freed ≡ chunk
-      → means.service_view new after ≡ lets_go mid freed → IsCollecting means new after range (taken + 1)
-  collects_one old before new after range taken was seat_is same mid chunk word header freed found content took freed_same freed_is =
+      → means.service_view new after ≡ lets_go (notes mid note) freed → AllArrived (means.service_view new after)
+      → IsCollecting means new after range (taken + 1)
+  collects_one old before new after range taken was seat_is same mid chunk word header freed found content note took freed_same freed_is arrived =
       let rows = ap (λ (s : ServiceView). s.taken) freed_is ∙ ap (λ (s : ServiceView). s.taken) took in
       let more = first_more (means.service_view old before).taken content was.listed in
       record {
@@ -53,6 +58,7 @@ module _ {T W S : Type 0} (means : Meaning T W S) where
         listed = subst (λ (l : List Taken). 0 < length l) (sym rows) more.0;
         none_out = ap (λ (s : ServiceView). s.reading) freed_is ∙ ap (λ (s : ServiceView). without freed s.reading) took
             ∙ none_left (means.service_view old before).reading chunk freed was.none_out freed_same;
+        arrived = arrived;
         from = ap (λ (s : Setup). from_of s 0) same ∙ was.from;
         count = ap (λ (n : ℕ). n + 1) was.count ∙ sym more.1 ∙ ap (λ (l : List Taken). (get_or l 0 none_taken).count) (sym rows);
       }
