@@ -1,13 +1,17 @@
 //! A helper that takes the complete chunks of one writer and lets them go, as a service does.
-ghost use Rattle.std.specs.Prelude.{◌≡◌, ◌+◌, ◌-◌, ◌<◌, ◌≤◌, [], length};
+ghost use Rattle.std.specs.Prelude.{◌≡◌, ◌+◌, ◌-◌, ◌<◌, ◌≤◌, [], length, vec_len};
 ghost use Rattle.std.proofs.Common.{refl, ap, sym, subst, ◌∙◌};
 ghost use Rattle.trace_model.specs.Counts.{last_count};
-ghost use Rattle.chunk_plain.specs.Setup.{Setup, from_of};
-ghost use Rattle.chunk_plain.specs.Views.{ServiceView, taken_of};
+ghost use Rattle.chunk_plain.specs.Setup.{Setup, from_of, spot};
+ghost use Rattle.chunk_plain.specs.Views.{Arrive, ServiceView, taken_of};
+ghost use Rattle.chunk_plain.specs.Owned.{times};
+ghost use Rattle.chunk_plain.specs.Steps.{lets_go, notes};
+ghost use Rattle.chunk_plain.specs.Words.{AllArrived, LacksArrival};
+ghost use Rattle.chunk_plain.specs.Meaning.{IsServiceStep};
 ghost use Rattle.trace_writer.specs.Helping.{LeavesWriters};
 
 use crate::setting::FROM;
-use chunk_plain::{ChunkRange, PlainService, PlainTable, Taken, Words};
+use chunk_plain::{ChunkRange, PlainService, PlainTable, ServiceEvent, Taken, Words};
 use commit_body::Patch;
 use page_geometry::ChunkHeader;
 use trace_base::ids::id_of;
@@ -81,8 +85,27 @@ pub(crate) struct Collector {
     pub asks: u64,
 }
 
+/// Notes that a chunk of the first writer arrived, as the service does, and gives it back.
+fn give_back(table: &mut PlainTable, service: &mut PlainService, token: Taken, position: u32)
+    requires service { ⟦<PlainTable as Words>⟧.means.serves table.old service.old }
+    requires lacks { LacksArrival (⟦<PlainTable as Words>⟧.means.service_view table.old service.old) 0 position }
+    requires reading { 0 < times token.chunk (⟦<PlainTable as Words>⟧.means.service_view table.old service.old).reading }
+    requires size { vec_len token.body.payload ≡ (spot (⟦<PlainTable as Words>⟧.means.setup table.old) token.chunk).payload_size }
+    ensures view { ⟦<PlainTable as Words>⟧.means.service_view table.new service.new
+        ≡ lets_go (notes (⟦<PlainTable as Words>⟧.means.service_view table.old service.old) (Arrive 2 position)) token.chunk }
+    ensures arrived { AllArrived (⟦<PlainTable as Words>⟧.means.service_view table.new service.new) }
+    ensures step { IsServiceStep ⟦<PlainTable as Words>⟧.means table.old service.old table.new service.new }
+{
+    let arrival = ServiceEvent::Arrive {
+        sequence: 2,
+        chunk_id: position,
+    };
+    table.note(service, arrival);
+    table.release(service, token);
+}
+
 impl Collector {
-    /// Takes the chunk where it is the next one, and lets it go.
+    /// Takes the chunk where it is the next one, notes that it arrived, and lets it go.
     fn try_one(&mut self, table: &mut PlainTable, chunk: u32)
         requires needs { ⟦<Collector as HelperOn<PlainTable>>⟧.needs self.old table.old }
         requires chunk { chunk < self.old.range.first + self.old.range.count }
@@ -97,23 +120,25 @@ impl Collector {
         let Ok(token) = table.take(&mut self.service, chunk, 1, id_of(FROM, self.taken)) else {
             return;
         };
-        self.images[self.taken as usize % 4] = Some(Image::of(&token));
+        let position = self.taken;
+        self.images[position as usize % 4] = Some(Image::of(&token));
         self.taken = more;
-        table.release(&mut self.service, token);
+        give_back(table, &mut self.service, token, position);
     }
 }
 
 impl HelperOn<PlainTable> for Collector {
     ghost turns = { λ collector. 4294967296 - collector.taken };
 
-    // the chunks are there, it counted what was taken of the first writer, whose ids it knows, and it reads none of it
+    // the chunks are there, it counted what was taken of the first writer, whose ids it knows, it reads none of it, and all of it has arrived
     ghost needs = { λ collector table. (⟦<PlainTable as Words>⟧.means.serves table collector.service)
         × (collector.range.first + collector.range.count ≤ length (⟦<PlainTable as Words>⟧.means.setup table).spots)
         × (1 ≤ length (⟦<PlainTable as Words>⟧.means.setup table).writers)
         × (0 < length (⟦<PlainTable as Words>⟧.means.service_view table collector.service).taken)
         × ((⟦<PlainTable as Words>⟧.means.service_view table collector.service).reading ≡ [])
         × (collector.taken ≡ (taken_of (⟦<PlainTable as Words>⟧.means.service_view table collector.service) 0).count)
-        × (from_of (⟦<PlainTable as Words>⟧.means.setup table) 0 ≡ 4294967295) };
+        × (from_of (⟦<PlainTable as Words>⟧.means.setup table) 0 ≡ 4294967295)
+        × AllArrived (⟦<PlainTable as Words>⟧.means.service_view table collector.service) };
 
     ghost helps = { λ helper table producer answer after left. Unit {0} };
 
@@ -131,6 +156,7 @@ impl HelperOn<PlainTable> for Collector {
           ap (λ (v : ServiceView). v.reading) stays.1 ∙ needs.4,
           needs.5 ∙ ap (λ (v : ServiceView). (taken_of v 0).count) (sym stays.1),
           ap (λ (s : Setup). from_of s 0) step.setup_stays ∙ needs.6,
+          subst AllArrived (sym stays.1) needs.7,
         ) };
 
     fn help(&mut self, table: &mut PlainTable, producer: u16) -> bool {

@@ -1,21 +1,30 @@
-use Rattle.std.proofs.Common.{◌∙◌, ℕ, sym, ap, rules, arith}
+use Rattle.std.proofs.Common.{◌∙◌, ℕ, sym, ap, rules, arith, subst}
 use Rattle.std.proofs.lemmas.Grind.{common_steps}
 use Rattle.page_geometry.specs.Header.{packed}
-use Rattle.chunk_plain.specs.Words.{taken_content}
+use Rattle.chunk_plain.specs.Words.{LacksArrival, taken_content}
+use Rattle.chunk_plain.proofs.ArrivedLemmas.{takes_lacks}
 use Rattle.chunk_plain.proofs.Holding.{takes_reads}
 use Rattle.chunk_plain.specs.Views.{taken_of}
 use Rattle.trace_writer_rows.proofs.collector.Collector.try_one.Goals as goal
 use Rattle.trace_base.specs.Ids.{id_of}
 
-pub release-requires-clause-reading : goal.release-requires-clause-reading
-release-requires-clause-reading c =
+pub give_back-requires-clause-reading : goal.give_back-requires-clause-reading
+give_back-requires-clause-reading c =
     let taken = c.in-Ok.ensures.taken in
     takes_reads c.args.table.now.told.world.service c.take.new.self.told.world.service c.args.chunk c.in-Ok.token.chunk
     taken.word (packed c.in-Ok.token.header) 0 _ (taken_content c.args.table.now.layout 0 (taken_of c.args.table.now.told.world.service 0).count c.in-Ok.token) taken.view taken.chunk_is
 
+pub give_back-requires-clause-lacks : goal.give_back-requires-clause-lacks
+give_back-requires-clause-lacks c =
+    let needs = c.requires.needs in
+    let old = c.args.table.now.told.world.service in
+    let new = c.take.new.self.told.world.service in
+    subst (λ (n : ℕ). LacksArrival new 0 n) (sym needs.5)
+    (takes_lacks c.args.table.now.layout old new c.args.chunk 1 c.id_of.result c.in-Ok.token c.in-Ok.ensures.taken needs.3 needs.7)
+
 pub returns-clause-leaves : goal.returns-clause-leaves
 returns-clause-leaves c =
-    let one = c.take.ensures.step in let two = c.release.ensures.step in
+    let one = c.take.ensures.step in let two = c.give_back.ensures.step in
     record {
       setup_stays = two.setup_stays ∙ one.setup_stays;
       writers_stay = λ seat there.
