@@ -5,12 +5,14 @@ ghost use Rattle.chunk_plain.specs.declared.tokens.TheConstants.{MAX_HELD, POSIT
 ghost use Rattle.chunk_plain.specs.Setup.{producer_of, IsChunkOf, spot, id_at};
 ghost use Rattle.chunk_plain.specs.Payload.{byte_in};
 ghost use Rattle.chunk_plain.specs.Views.{taken_of};
-ghost use Rattle.chunk_plain.specs.Owned.{held_count};
+ghost use Rattle.chunk_plain.specs.Owned.{held_count, times};
 ghost use Rattle.chunk_plain.specs.Drafts.{IsHolding};
 ghost use Rattle.chunk_plain.specs.Meaning.{IsWriterStep, IsServiceStep};
-ghost use Rattle.chunk_plain.specs.Words.{KeepsSealed, FindsOther};
+ghost use Rattle.chunk_plain.specs.Words.{AllArrived, LacksArrival, KeepsSealed, FindsOther};
 
-use chunk_plain::{Held, NotComplete, PlainTable, PlainWriter, ProducerSpec, Words};
+use chunk_plain::{
+    Held, NotComplete, PlainTable, PlainWriter, ProducerSpec, ServiceEvent, Taken, Words,
+};
 use page_geometry::{Geometry, PageWord};
 use std::alloc::Global;
 use std::test::Fail;
@@ -93,7 +95,31 @@ fn fill<W: Words>(table: &mut W, seat: &mut W::Writer, chunk: u32, id: u32) -> b
     true
 }
 
-/// The service's way with one chunk.
+/// Notes that a chunk of the writer with this number arrived, as the service does, and gives it back.
+fn give_back<W: Words>(
+    table: &mut W,
+    seat: &mut W::Service,
+    taken: Taken,
+    writer: u16,
+    position: u32,
+)
+    requires seat { W.means.serves table.old seat.old }
+    requires least { 1 ≤ writer }
+    requires lacks { LacksArrival (W.means.service_view table.old seat.old) (writer - 1) position }
+    requires reading { 0 < times taken.chunk (W.means.service_view table.old seat.old).reading }
+    requires size { vec_len taken.body.payload ≡ (spot (W.means.setup table.old) taken.chunk).payload_size }
+    ensures step { IsServiceStep W.means table.old seat.old table.new seat.new }
+{
+    let sequence = u32::from(writer) + 1;
+    let arrival = ServiceEvent::Arrive {
+        sequence,
+        chunk_id: position,
+    };
+    table.note(seat, arrival);
+    table.release(seat, taken);
+}
+
+/// The service's way with the first chunk of a writer.
 fn drain<W: Words>(
     table: &mut W,
     seat: &mut W::Service,
@@ -107,14 +133,16 @@ fn drain<W: Words>(
     requires writers { writer ≤ length (W.means.setup table.old).writers }
     requires id { id ≡ id_at (W.means.setup table.old) (writer - 1)
         (taken_of (W.means.service_view table.old seat.old) (writer - 1)).count }
+    requires none_taken { (taken_of (W.means.service_view table.old seat.old) (writer - 1)).count ≡ 0 }
     requires none_out { (W.means.service_view table.old seat.old).reading ≡ [] }
+    requires arrived { AllArrived (W.means.service_view table.old seat.old) }
     ensures refused { IfErr result (λ found. FindsOther (W.means.setup table.old) chunk writer id found
         (W.means.service_view table.old seat.old) (W.means.service_view table.new seat.new)) }
     ensures step { IsServiceStep W.means table.old seat.old table.new seat.new }
 {
     let taken = table.take(seat, chunk, writer, id)?;
     let count = taken.header.count;
-    table.release(seat, taken);
+    give_back(table, seat, taken, writer, 0);
     Ok(count)
 }
 
@@ -149,6 +177,7 @@ fn scrape_and_take<W: Words>(
     requires service { W.means.serves table.old service.old }
     requires none_taken { (taken_of (W.means.service_view table.old service.old) 0).count ≡ 0 }
     requires none_out { (W.means.service_view table.old service.old).reading ≡ [] }
+    requires arrived { AllArrived (W.means.service_view table.old service.old) }
     requires size { length into.old ≡ (spot (W.means.setup table.old) chunk).payload_size }
 {
     let held = write(table, seat, chunk, id)?;
@@ -163,7 +192,7 @@ fn scrape_and_take<W: Words>(
         first: first_six(into),
         taken: first_six(&taken.body.payload),
     };
-    table.release(service, taken);
+    give_back(table, service, taken, 1, 0);
     Some(scraped)
 }
 

@@ -3,6 +3,7 @@ use Rattle.chunk_plain.specs.Views.{WriterView, ServiceView, Taken, none_taken, 
 use Rattle.chunk_plain.specs.World.{World, writer, nowhere}
 use Rattle.chunk_plain.specs.Owned.{held_count}
 use Rattle.chunk_plain.proofs.MadeLemmas.{all_same}
+use Rattle.chunk_plain.proofs.ArrivedLemmas.{none_lacks}
 use Rattle.chunk_plain.specs.Setup.{Setup, id_at}
 use Rattle.chunk_plain_rows.proofs.rounds.answer_to.Goals as goal
 use Rattle.chunk_plain_rows.proofs.SameWriters.{from_of_two}
@@ -76,3 +77,21 @@ drain-requires-clause-none_out c =
     let one = c.fill.ensures.step.service_stays service c.in_ok-table.ensures.serves in
     let two = c.fill-else-not-fill.ensures.step.service_stays service one.0 in
     ap (λ (s : ServiceView). s.reading) c.look.ensures.view.view ∙ ap (λ (s : ServiceView). s.reading) (two.1 ∙ (one.1 ∙ first))
+
+-- the service has taken nothing by then, of any writer
+none_then : (c : goal.After-look) (place : ℕ) → (taken_of c.look.new.self.told.world.service place).count ≡ 0
+none_then c place =
+    let service = c.in_ok-table.service in
+    let first = ap (λ (o : Option World). (unwrap_or o nowhere).service) c.in_ok-table.ensures.told in
+    let one = c.fill.ensures.step.service_stays service c.in_ok-table.ensures.serves in
+    let two = c.fill-else-not-fill.ensures.step.service_stays service one.0 in
+    let looked = ap (λ (s : ServiceView). s.taken) c.look.ensures.view.view in
+    let all = looked ∙ ap (λ (s : ServiceView). s.taken) (two.1 ∙ (one.1 ∙ first)) in
+    let two_writers : List ℕ = 0 ∷ 0 ∷ [] in
+    ap (λ (l : List Taken). (get_or l place none_taken).count) all ∙ ap (λ (t : Taken). t.count) (all_same none_taken two_writers place)
+
+pub drain-requires-clause-none_taken : goal.drain-requires-clause-none_taken
+drain-requires-clause-none_taken c = none_then c (c.args.writer - 1)
+
+pub drain-requires-clause-arrived : goal.drain-requires-clause-arrived
+drain-requires-clause-arrived c = none_lacks c.look.new.self.told.world.service (none_then c)
