@@ -164,6 +164,7 @@ first_sits setup place inside =
       inside = inside;
       stamped = refl;
       asked = λ i ask at. absurd (some-ne-none ask (sym at));
+      behind = λ i ask at. absurd (some-ne-none ask (sym at));
       claimed = λ chunk mine. absurd (omega arith);
       begun = λ position entry at. absurd (some-ne-none entry (sym at));
     })

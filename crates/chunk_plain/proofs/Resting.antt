@@ -1,5 +1,5 @@
 -- What the seats of the table of one thread have between two calls stays through each of them.
-use Rattle.std.proofs.Common.{◌≡◌, ◌≢◌, ℕ, ◌+◌, ◌<◌, Bool, true, false, List, [], ◌∷◌, ◌++◌, length, set, get_or, subst, sym, refl, ap, ◌∙◌, arith, ⊎_elim, length-set, length-append}
+use Rattle.std.proofs.Common.{◌≡◌, ◌≢◌, ℕ, ◌+◌, ◌<◌, ◌≤◌, Bool, true, false, List, [], ◌∷◌, ◌++◌, length, set, get_or, subst, sym, refl, ap, ◌∙◌, arith, ⊎_elim, length-set, length-append}
 use Rattle.std.proofs.lemmas.List.{get_or-set_same, get_or-set_other, set-set}
 use native.Mathlib.Decide.{ℕ_discrete}
 use mathlib.Core.Logic.{dite}
@@ -47,6 +47,7 @@ module _ (setup : Setup) (place : ℕ) (view : WriterView) (rests : IsAtRest set
     inside = rests.inside;
     stamped = rests.stamped;
     asked = λ i ask at. ⊎_elim (λ old. rests.asked i ask old) (λ new. subst (λ (a : Ask). IsChunkOf setup (producer_of setup place) a.chunk) new.1 own) (at_more view.asked _ ask i at);
+    behind = λ i ask at. ⊎_elim (λ old. rests.behind i ask old) (λ new. subst (λ (a : Ask). a.calls ≤ length view.calls) new.1 (omega arith)) (at_more view.asked _ ask i at);
     claimed = λ other mine. dite (ℕ_discrete other chunk)
         (λ same. subst (IsChunkOf setup (producer_of setup place)) (sym same) own)
         (λ differs. rests.claimed other (let fewer = times-other other chunk view.claimed differs in omega arith));
@@ -56,6 +57,7 @@ module _ (setup : Setup) (place : ℕ) (view : WriterView) (rests : IsAtRest set
     inside = rests.inside;
     stamped = rests.stamped;
     asked = λ i ask at. ⊎_elim (λ old. rests.asked i ask old) (λ new. subst (λ (a : Ask). IsChunkOf setup (producer_of setup place) a.chunk) new.1 own) (at_more view.asked _ ask i at);
+    behind = λ i ask at. ⊎_elim (λ old. rests.behind i ask old) (λ new. subst (λ (a : Ask). a.calls ≤ length view.calls) new.1 (omega arith)) (at_more view.asked _ ask i at);
     claimed = rests.claimed;
     begun = rests.begun;
   }
@@ -65,6 +67,7 @@ module _ (setup : Setup) (place : ℕ) (view : WriterView) (rests : IsAtRest set
     inside = rests.inside;
     stamped = refl;
     asked = rests.asked;
+    behind = rests.behind;
     claimed = λ other has. rests.claimed other (dite (ℕ_discrete other chunk)
         (λ same. subst (λ d. 0 < times d view.claimed) (sym same) mine)
         (λ differs. let fewer = times-without_other other chunk view.claimed differs in omega arith));
@@ -80,6 +83,7 @@ module _ (setup : Setup) (place : ℕ) (view : WriterView) (rests : IsAtRest set
     inside = rests.inside;
     stamped = rests.stamped;
     asked = rests.asked;
+    behind = rests.behind;
     claimed = rests.claimed;
     begun = λ i other at. ⊎_elim
         (λ new. subst (λ (e : BegunChunk). IsChunkOf setup (producer_of setup place) (chunk_of e)) new.1 (subst (IsChunkOf setup (producer_of setup place)) (sym same) (rests.begun position (Held chunk (draft_at view position)) holding)))
@@ -87,11 +91,18 @@ module _ (setup : Setup) (place : ℕ) (view : WriterView) (rests : IsAtRest set
         (at_set view.begun position i entry other at);
   }
 
-  pub noted_rest : (calls : List Call) (letters : Letters) → IsAtRest setup place (record view { calls = calls; letters = letters })
-  noted_rest calls letters = record { inside = rests.inside; stamped = rests.stamped; asked = rests.asked; claimed = rests.claimed; begun = rests.begun }
+  pub noted_rest : (calls : List Call) (letters : Letters) → length view.calls ≤ length calls → IsAtRest setup place (record view { calls = calls; letters = letters })
+  noted_rest calls letters more = record {
+    inside = rests.inside;
+    stamped = rests.stamped;
+    asked = rests.asked;
+    behind = λ i ask at. let was = rests.behind i ask at in omega (arith, was, more);
+    claimed = rests.claimed;
+    begun = rests.begun;
+  }
 
   pub notes_rest : (call : Call) → IsAtRest setup place (notes_call view call)
-  notes_rest call = noted_rest (view.calls ++ call ∷ []) view.letters
+  notes_rest call = noted_rest (view.calls ++ call ∷ []) view.letters (let one = length-append view.calls (call ∷ []) in omega (arith, one))
 
 -- the service has the content of the chunk that it took, when its take ends
 pub takes_serving : (setup : Setup) (view : ServiceView) (place chunk : ℕ) (content : Content) → IsServing setup view → place < length setup.writers

@@ -1,7 +1,7 @@
 -- What flush requests and their answers say in the views of the seats, and what each step on them does to a view. A writer hears of requests
 -- by their number, and answers with the number of the last one, which is an answer to all before it too.
 use Rattle.std.specs.Prelude.{◌≡◌, ℕ, ◌-◌, ◌^◌, ◌<◌, ◌≤◌, List, [], ◌∷◌, ◌++◌, length, slice_index_or}
-use Rattle.chunk_plain.specs.Views.{At, Reply, WriterView, Asked, Heard, asked_in, ServiceView}
+use Rattle.chunk_plain.specs.Views.{At, Ask, Reply, WriterView, Asked, Heard, asked_in, ServiceView}
 use Rattle.chunk_plain.specs.World.{World, writer}
 
 -- the answer of a writer that gave none
@@ -15,6 +15,10 @@ last_reply replies = slice_index_or replies (length replies - 1) no_reply
 -- the number in it, which is 0 without one
 abbrev pub last_flush : List Reply → ℕ
 last_flush replies = (last_reply replies).flush
+
+-- the writer has noted a call since its last claim
+abbrev pub NoClaimSince : WriterView → Type 0
+NoClaimSince view = (i : ℕ) (ask : Ask) → At view.asked i ask → ask.calls < length view.calls
 
 -- the answer is to a request that the writer knew of, and counts no more chunks and calls than it began and noted
 pub record IsReply (view : WriterView) (one : Reply) : Type 0 where

@@ -36,11 +36,13 @@ use Rattle.chunk_plain.specs.Shows.{ShowsPage, content_of}
 abbrev pub AsksItsOwn : Setup → (place : ℕ) → WriterView → Type 0
 AsksItsOwn setup place view = (i : ℕ) (ask : Ask) → At view.asked i ask → IsChunkOf setup (producer_of setup place) ask.chunk
 
--- a writer's seat: no header of it is stored in a chunk that it hasn't begun, and it has to do with its own producer's chunks alone
+-- a writer's seat: no header of it is stored in a chunk that it hasn't begun, it has to do with its own producer's chunks alone, and none of its
+-- claims says that it was made behind more calls than are noted
 pub record IsAtRest (setup : Setup) (place : ℕ) (view : WriterView) : Type 0 where
   pub inside : place < length setup.writers
   pub stamped : view.stamped ≡ None
   pub asked : AsksItsOwn setup place view
+  pub behind : (i : ℕ) (ask : Ask) → At view.asked i ask → ask.calls ≤ length view.calls
   pub claimed : (chunk : ℕ) → 0 < times chunk view.claimed → IsChunkOf setup (producer_of setup place) chunk
   pub begun : (position : ℕ) (entry : BegunChunk) → At view.begun position entry
       → IsChunkOf setup (producer_of setup place) (chunk_of entry)
