@@ -11,7 +11,7 @@ use Rattle.chunk_plain.specs.Payload.{byte_of, byte_at, byte_in, sealed_to}
 use Rattle.chunk_plain.specs.Views.{At, Head, no_head, Draft, fresh, Content, Completed, WriterView, asked_in, Found, Noted, Commit, Committed, taken_of}
 use Rattle.chunk_plain.specs.World.{World, Status, Unclaimed, Claimed, Stamped, Writing, Ready, Reading, status, writer}
 use Rattle.chunk_plain.specs.Steps.{claims, stamps, begins, with_head, with_word, completes, notes_call, looks_at, takes_in, learns, lets_go, notes, notes_commit, drafted, moved, served, with_writer_view, serviced}
-use Rattle.chunk_plain.specs.Letters.{last_reply, last_flush, knows_request, answers_with, requests, hears_answer}
+use Rattle.chunk_plain.specs.Letters.{NoClaimSince, last_reply, last_flush, knows_request, answers_with, requests, hears_answer}
 use Rattle.chunk_plain.specs.Owned.{times, held_count}
 use Rattle.chunk_plain.specs.Drafts.{MayFollow, IsDraft, IsFound, IsThere, IsHolding, head_of, draft_at, ends_by}
 use Rattle.chunk_plain.specs.Histories.{completed_images}
@@ -180,13 +180,14 @@ pub record MayHear (world : World) (place number : ℕ) : Type 0 where
   pub rises : (writer world place).letters.known ≤ number
   pub made : number ≤ asked_in world.service.letters
 
--- The writer knows of the request and hasn't answered it or a later one. It has completed as many chunks, and they are the first ones that
--- it began: none of these is held.
+-- The writer knows of the request and hasn't answered it or a later one. It has completed as many chunks, and they are the first ones that it
+-- began: none of these is held. Since its last claim it has noted a call, as the flush before an answer is.
 pub record MayAnswer (view : WriterView) (flush chunks : ℕ) : Type 0 where
   pub known : flush ≡ view.letters.known
   pub newer : last_flush view.letters.answers < flush
   pub completed : chunks ≡ length (completed_images view.begun)
   pub none_held : held_count (take chunks view.begun) ≡ 0
+  pub no_claim : NoClaimSince view
   pub small : chunks < 2 ^ 32
 
 -- it is the last answer of the writer
