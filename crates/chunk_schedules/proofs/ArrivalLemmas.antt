@@ -89,8 +89,12 @@ module _ (world : World) (place chunk word header : ℕ) (next : IsNext world pl
       subst (λ (t : Taken). number < t.count) (get_or-set_same world.service.taken place counted none_taken inside)
       (subst (λ (p : ℕ). number < (taken_of taking.service p).count) same low) in
       dite (ℕ_discrete number count)
-      (λ last. inl (chunk, next.0, subst (λ (p : ℕ). status taking chunk ≡ Reading p number next.0) (sym same)
-      (subst (λ (n : ℕ). status taking chunk ≡ Reading place n next.0) (sym last) now)))
+      (λ last. inl (
+        chunk,
+        next.0,
+        subst (λ (p : ℕ). status taking chunk ≡ Reading p number next.0) (sym same)
+            (subst (λ (n : ℕ). status taking chunk ≡ Reading place n next.0) (sym last) now),
+      ))
       (λ earlier. old_still other number
       (subst (λ (p : ℕ). number < (taken_of world.service p).count) (sym same) (omega (arith, below, earlier)))))
       (λ differs. old_still other number

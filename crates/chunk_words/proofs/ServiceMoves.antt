@@ -307,9 +307,14 @@ module _ (setup : Setup) (count id made : ℕ) (desk : Desk) where
           roll = roll;
           laid = r.laid;
           kept = kept;
-          led = led_on setup r.roll.marks world next (TakesMove place chunk word (packed (unpacked header))) r.led
-              (w_inside, c_inside, (content, ready), says_use setup header (status world chunk) (shown_by header (status world chunk) f.5), complete,
-              subst (λ (z : ServiceView). z.reading ≡ []) f.0 none)
+          led = led_on setup r.roll.marks world next (TakesMove place chunk word (packed (unpacked header))) r.led (
+            w_inside,
+            c_inside,
+            (content, ready),
+            says_use setup header (status world chunk) (shown_by header (status world chunk) f.5),
+            complete,
+            subst (λ (z : ServiceView). z.reading ≡ []) f.0 none,
+          )
               (ap (λ t. served world view chunk (read_as t)) ready);
           words = words_front setup s.words r.front r.slots at_.page new (page_front setup s r chunk inside) (front_many setup s r) r.words;
           mail = mail_by_service setup world next (set s.words (front_place at_.page) new) refl refl

@@ -6,7 +6,7 @@
 ghost use Rattle.std.specs.Prelude.{◌≡◌, ◌+◌, ◌-◌, ◌/◌, ◌%◌, ◌<◌, ◌≤◌, [], length, take};
 ghost use Rattle.chunk_plain.specs.Views.{asked_in};
 ghost use Rattle.chunk_plain.specs.Histories.{completed_images};
-ghost use Rattle.chunk_plain.specs.Letters.{last_flush, knows_request, answers_with, requests, hears_answer};
+ghost use Rattle.chunk_plain.specs.Letters.{NoClaimSince, last_flush, knows_request, answers_with, requests, hears_answer};
 ghost use Rattle.chunk_plain.specs.Owned.{held_count};
 ghost use Rattle.chunk_words.specs.Knows.{Here, Unmade, view_of, service_of, desk_of, stage_of, passed_of, staged, later};
 ghost use Rattle.chunk_words.specs.Moves.{LearnsRequest, GivesAnswer, ReadsAnswer, NotesRequest, Compares, Serves, IsAnswer};
@@ -54,13 +54,15 @@ impl HostTable {
     }
 
     /// The writer answers the last request that it knows of, and those before it, with the chunks that it
-    /// has completed: as many, and the first ones that it began, none of which it holds.
+    /// has completed: as many, and the first ones that it began, none of which it holds. Since its last
+    /// claim it has noted a call.
     pub fn answer(&self, seat: &mut WriterSeat, flush: u32, chunks: u32)
         requires seat { Sits self.now seat.old }
         requires known { flush ≡ (view_of seat.old.seat.me.0).letters.known }
         requires newer { last_flush (view_of seat.old.seat.me.0).letters.answers < flush }
         requires chunks { chunks ≡ length (completed_images (view_of seat.old.seat.me.0).begun) }
         requires none_held { held_count (take chunks (view_of seat.old.seat.me.0).begun) ≡ 0 }
+        requires no_claim { NoClaimSince (view_of seat.old.seat.me.0) }
         ensures view { view_of seat.new.seat.me.0 ≡ answers_with (view_of seat.old.seat.me.0) flush chunks }
         ensures place { seat.new.place ≡ seat.old.place }
         ensures seat { Sits self.now seat.new }
@@ -175,6 +177,7 @@ impl HostTable {
         requires newer { last_flush (view_of seat.old.seat.me.0).letters.answers < flush }
         requires chunks { chunks ≡ length (completed_images (view_of seat.old.seat.me.0).begun) }
         requires none_held { held_count (take chunks (view_of seat.old.seat.me.0).begun) ≡ 0 }
+        requires no_claim { NoClaimSince (view_of seat.old.seat.me.0) }
         ensures { WriterLeaves seat.old seat.new (GivesAnswer flush chunks) }
     {
         let index = self.answer_index(seat.place);

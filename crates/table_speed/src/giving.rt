@@ -12,13 +12,7 @@ use chunk_plain::{ServiceEvent, Taken};
 use chunk_words::{HostTable, ServiceSeat};
 
 /// Notes that the chunk of the writer with this number arrived, as the service does, and gives it back.
-pub fn give_back(
-    host: &HostTable,
-    seat: &mut ServiceSeat,
-    taken: Taken,
-    writer: u16,
-    position: u32,
-)
+pub fn give_back(host: &HostTable, seat: &mut ServiceSeat, taken: Taken, writer: u16, position: u32)
     requires seat { Attends host.now seat.old }
     requires least { 1 ≤ writer }
     requires lacks { LacksArrival (service_of seat.old.seat.me.0) (writer - 1) position }

@@ -76,4 +76,3 @@ returns-clause-none_held g c =
     (ap (λ (v : WriterView). v.begun) won.view) c.requires.next c.begin-held.ensures.held.chunk_is held_is chunk_is token_is
     c.begin-held.ensures.view.view c.publish.ensures.view.view c.complete.ensures.view in
     round_held old last c.in-Some.claimed.chunk content is c.requires.none_held
-

@@ -41,4 +41,3 @@ take-requires-clause-next c = record {
   id_is = let needs = c.requires.needs in
       c.id_of.ensures ∙ ap (id_of 4294967295) needs.5 ∙ ap (λ (f : ℕ). id_of f (taken_of c.args.table.now.told.world.service 0).count) (sym needs.6);
 }
-
