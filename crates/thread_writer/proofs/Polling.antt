@@ -1,12 +1,12 @@
 -- A writer that hears of flush requests, and one that answers, is one of its table still.
-use Rattle.std.proofs.Common.{◌<◌, ◌≡◌, ◌∙◌, ℕ, ◌+◌, Bool, true, false, not, List, [], ◌∷◌, ◌++◌, length, take, refl, sym, ap, subst, arith, ⊎_elim, append-nil}
+use Rattle.std.proofs.Common.{◌<◌, ◌≡◌, ◌∙◌, ℕ, ◌+◌, Bool, true, false, not, List, [], ◌∷◌, ◌++◌, length, take, refl, sym, ap, subst, arith, ⊎_elim, append-nil, length-append}
 use Rattle.std.proofs.lemmas.List.{take_all}
 use Rattle.trace_model.specs.Calls.{Call, Flushed}
 use Rattle.chunk_plain.specs.Histories.{completed_images}
-use Rattle.chunk_plain.specs.Letters.{last_flush, knows_request, answers_with}
+use Rattle.chunk_plain.specs.Letters.{NoClaimSince, last_flush, knows_request, answers_with}
 use Rattle.chunk_plain.specs.Owned.{held_count}
 use Rattle.chunk_plain.specs.Setup.{Setup}
-use Rattle.chunk_plain.specs.Views.{At, BegunChunk, Letters, Reply, WriterView}
+use Rattle.chunk_plain.specs.Views.{At, Ask, BegunChunk, Letters, Reply, WriterView}
 use Rattle.chunk_plain.proofs.Lists.{at_more}
 use Rattle.chunk_words.specs.declared.host.HostTable.{HostTable}
 use Rattle.chunk_words.specs.declared.seats.WriterSeat.{WriterSeat}
@@ -108,6 +108,16 @@ answered_writes table old new flush chunks was policy answered none flushed comp
           (subst (λ (v : WriterView). IsAnsweredCut (route_of (core_of old)).payload_size ((core_of old).seat.place + 2) v answer) (sym view)
           (are n answer (subst (λ (v : WriterView). At v.letters.answers n answer) view at))));
     }
+
+-- behind the flush of a poll it has made no claim
+pub no_claim_since : (table : HostTable) (shared_table : Shared) (old heard flushed : TraceWriter) → is_stalled (core_of old) ≡ false
+    → HearsAlone (core_of old) (core_of heard) → Writes table heard → IsQuietCall shared_table (core_of heard) (core_of flushed) (Flushed ∷ [])
+    → NoClaimSince (view_in flushed)
+no_claim_since table shared_table old heard flushed going alone writes call i ask at =
+    let goes : is_stalled (core_of heard) ≡ false = ap (λ (w : Writer). is_stalled_state w.state) alone.writer ∙ going in
+    let more = ap (λ (calls : List Call). length calls) (call.notes goes) ∙ length-append (view_in heard).calls (Flushed ∷ []) in
+    let behind = writes.seat.rests.rests.behind i ask (subst (λ (asked : List Ask). At asked i ask) call.quiet.asked at) in
+    omega (arith, more, behind)
 
 -- ---- a poll that answers: the writer heard, flushed and gave its answer
 

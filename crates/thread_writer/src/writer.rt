@@ -7,6 +7,7 @@ ghost use Rattle.trace_model.specs.Calls as call;
 ghost use Rattle.trace_model.specs.Encoding.{number_field, nested_tag};
 ghost use Rattle.trace_model.specs.Packets.{begun_count, dropped_at_begin};
 ghost use Rattle.chunk_plain.specs.Histories.{completed_images};
+ghost use Rattle.chunk_plain.specs.Letters.{NoClaimSince};
 ghost use Rattle.chunk_plain.specs.Setup.{spot, range_of, producer_of, HasProducer, IsChunkOf};
 ghost use Rattle.chunk_plain.specs.Views.{newcomer, asked_in};
 ghost use Rattle.chunk_words.specs.declared.host.HostTable.{HostTable};
@@ -255,11 +256,13 @@ impl TraceWriter {
         table.asked(&mut self.core.seat)
     }
 
-    /// Answers the newest request with all completed chunks, behind a flush.
+    /// Answers the newest request with all completed chunks, behind a flush, which it noted since its
+    /// last claim.
     fn answer(&mut self, table: &HostTable, flush: u32) -> u32
         requires writes { Writes table.now self.old }
         requires flushed { IsFlushed (view_in self.old).calls }
         requires none_held { holds_chunk (core_of self.old) ≡ false }
+        requires no_claim { NoClaimSince (view_in self.old) }
         requires request { IsNewRequest flush (view_in self.old) }
         ensures writes { Writes table.now self.new }
         ensures complete { result ≡ length (completed_images (view_in self.old).begun) }

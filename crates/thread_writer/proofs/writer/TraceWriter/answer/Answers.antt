@@ -1,7 +1,7 @@
 use Rattle.std.proofs.Common.{◌≡◌, ◌∙◌, length, take, refl, sym, ap, subst}
 use Rattle.crossbeam_utils.specs.Padded.{padded_with_value}
 use Rattle.chunk_plain.specs.Histories.{completed_images}
-use Rattle.chunk_plain.specs.Letters.{answers_with}
+use Rattle.chunk_plain.specs.Letters.{NoClaimSince, answers_with}
 use Rattle.chunk_plain.specs.Owned.{held_count}
 use Rattle.chunk_words.specs.declared.seats.WriterSeat.{WriterSeat}
 use Rattle.chunk_words.specs.Sits.{known_by}
@@ -19,6 +19,9 @@ answer-requires-clause-none_held c =
     let chunks = c.completed-chunks.result in
     subst (λ (core : WriterCore WriterSeat). held_count (take chunks (known_by core.seat).begun) ≡ 0) (sym c.deref_mut.ensures.value)
     (none_of_them c.args.table.now c.args.self.now chunks c.requires.writes c.requires.none_held (c.completed-chunks.ensures c.args.table.now c.requires.writes))
+
+pub answer-requires-clause-no_claim : goal.answer-requires-clause-no_claim
+answer-requires-clause-no_claim c = subst (λ (core : WriterCore WriterSeat). NoClaimSince (known_by core.seat)) (sym c.deref_mut.ensures.value) c.requires.no_claim
 
 pub returns-clause-writes : goal.returns-clause-writes
 returns-clause-writes c =
