@@ -6,3 +6,4 @@ pub mod ArrivalLemmas
 pub mod TakenLemmas
 pub mod ReadLemmas
 pub mod RequestLemmas
+pub mod AnswerLemmas

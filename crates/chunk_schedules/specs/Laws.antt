@@ -1,12 +1,12 @@
 -- The laws of schedules that hold on each table of chunks, whatever is read from it.
 use Rattle.std.specs.Prelude.{◌≡◌, ◌⊎◌, ℕ, ◌<◌, ◌≤◌, true, false, List, [], ◌∷◌, ◌++◌, length}
 use Rattle.chunk_plain.specs.Setup.{Setup, sequence_of}
-use Rattle.chunk_plain.specs.Views.{At, Ask, Asked, Content, taken_of}
+use Rattle.chunk_plain.specs.Views.{At, Ask, Asked, Content, Reply, taken_of}
 use Rattle.chunk_plain.specs.World.{World, Reading, Unclaimed, status, writer}
 use Rattle.chunk_plain.specs.Plain.{first_world}
 use Rattle.chunk_plain.specs.Owned.{IsOwned}
 use Rattle.chunk_plain.specs.Words.{is_arrival_noted}
-use Rattle.chunk_schedules.specs.Moves.{Move, Claims, Requests}
+use Rattle.chunk_schedules.specs.Moves.{Move, Claims, Answers, Requests, MayAnswer}
 use Rattle.chunk_schedules.specs.Schedules.{IsSchedule}
 
 -- No moves lead nowhere else; schedules go on one behind another; and each front of a schedule is one, which leads to a world on the way.
@@ -81,3 +81,23 @@ abbrev pub RequestsAreMadeInTurn : Type 0
 RequestsAreMadeInTurn = (setup : Setup) (moves : List Move) (world : World) → IsSchedule setup (first_world setup) moves world
     → (number events : ℕ) → At world.service.letters number (Asked events)
     → FindsRequest setup moves (first_world setup) world number events
+
+-- The given moves give this answer, the writer's one with this number: it is the move between those before and those after, and in the world
+-- to which those before lead the writer may answer so, and has noted as many calls as the answer says.
+pub record FindsAnswer (setup : Setup) (moves : List Move) (old new : World) (place number : ℕ) (reply : Reply) : Type 0 where
+  pub mid : World
+  pub before : List Move
+  pub after : List Move
+  pub moves_are : moves ≡ before ++ Answers place reply.flush reply.chunks ∷ after
+  pub first : IsSchedule setup old before mid
+  pub then : IsSchedule setup mid (Answers place reply.flush reply.chunks ∷ after) new
+  pub count : length (writer mid place).letters.answers ≡ number
+  pub noted : length (writer mid place).calls ≡ reply.calls
+  pub may : MayAnswer (writer mid place) reply.flush reply.chunks
+
+-- Each answer of a schedule is one of its moves, made behind as many calls as it says. So a claim that was made behind as many calls or more
+-- comes behind it: by then the writer has made none.
+abbrev pub AnswersAreGivenInTurn : Type 0
+AnswersAreGivenInTurn = (setup : Setup) (moves : List Move) (world : World) → IsSchedule setup (first_world setup) moves world
+    → (place number : ℕ) (reply : Reply) → At (writer world place).letters.answers number reply
+    → FindsAnswer setup moves (first_world setup) world place number reply

@@ -1,6 +1,6 @@
 //! The laws: contracts of functions with nothing to do.
 ghost use Rattle.chunk_schedules.specs.Laws.{SchedulesJoin, SchedulesKeepOwnership, ClaimsInVainFindHad};
-ghost use Rattle.chunk_schedules.specs.Laws.{AtMostOneIsRead, FreedHaveArrived, ArrivedWereTaken, RequestsAreMadeInTurn};
+ghost use Rattle.chunk_schedules.specs.Laws.{AtMostOneIsRead, FreedHaveArrived, ArrivedWereTaken, RequestsAreMadeInTurn, AnswersAreGivenInTurn};
 
 /// Schedules go on one behind another, and each front of a schedule is one.
 pub fn schedules_join()
@@ -35,4 +35,10 @@ pub fn arrived_were_taken()
 /// Each request was made behind as many events as it says, while no chunk was read.
 pub fn requests_are_made_in_turn()
     ensures { RequestsAreMadeInTurn }
+{}
+
+/// Each answer was given behind as many calls as it says, and behind no claim that was made behind as
+/// many.
+pub fn answers_are_given_in_turn()
+    ensures { AnswersAreGivenInTurn }
 {}

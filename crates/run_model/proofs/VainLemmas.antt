@@ -1,5 +1,5 @@
 -- A schedule leads to what was done in a run, by way of the marked world; each claim in vain of it was made where somebody had the chunk, and each
--- request where it says.
+-- request and each answer where it says.
 use Rattle.std.proofs.Common.{◌≡◌, Bool, List, ◌++◌, get_or, sym, subst}
 use Rattle.std.proofs.Math.Logic.{∥∥₁_elim, ∥∥₁_map₂}
 use Rattle.chunk_plain.specs.Setup.{Setup}
@@ -9,6 +9,7 @@ use Rattle.chunk_plain.specs.Plain.{first_world}
 use Rattle.chunk_schedules.specs.Moves.{Move}
 use Rattle.chunk_schedules.specs.Schedules.{IsSchedule, Leads}
 use Rattle.chunk_schedules.proofs.ScheduleLemmas.{schedules_join}
+use Rattle.chunk_schedules.proofs.AnswerLemmas.{answers_are_given_in_turn}
 use Rattle.chunk_schedules.proofs.RequestLemmas.{requests_are_made_in_turn}
 use Rattle.chunk_schedules.proofs.VainLemmas.{claims_in_vain_find_had}
 use Rattle.scenario_text.specs.Scenario.{Parts}
@@ -33,6 +34,8 @@ loses_where_had scenario setup world closed done =
           (subst (λ (views : List WriterView). At (get_or views place newcomer).asked number ask) (sym goes.2) at) lost,
       λ number events at. requests_are_made_in_turn setup (first.0 ++ then.0) goes.0 schedule number events
           (subst (λ (view : ServiceView). At view.letters number (Asked events)) (sym goes.3) at),
+      λ place number reply at. answers_are_given_in_turn setup (first.0 ++ then.0) goes.0 schedule place number reply
+          (subst (λ (views : List WriterView). At (get_or views place newcomer).letters.answers number reply) (sym goes.2) at),
     )))
 
 pub lost_claims_find_had : LostClaimsFindHad

@@ -4,12 +4,12 @@ use Rattle.trace_model.specs.Balance.{PacketCounts}
 use Rattle.trace_model.specs.Counts.{last_count}
 use Rattle.trace_model.specs.Delivery.{Delivered, IsFaithful, IsComplete}
 use Rattle.chunk_plain.specs.Setup.{Setup, producer_of}
-use Rattle.chunk_plain.specs.Views.{At, Ask, Asked, Content, Completed, taken_of}
+use Rattle.chunk_plain.specs.Views.{At, Ask, Asked, Content, Completed, Reply, taken_of}
 use Rattle.chunk_plain.specs.World.{World, writer}
 use Rattle.chunk_plain.specs.Plain.{first_world}
 use Rattle.chunk_schedules.specs.Moves.{Move}
 use Rattle.chunk_schedules.specs.Schedules.{IsSchedule}
-use Rattle.chunk_schedules.specs.Laws.{FindsHad, FindsRequest}
+use Rattle.chunk_schedules.specs.Laws.{FindsHad, FindsRequest, FindsAnswer}
 use Rattle.scenario_text.specs.declared.scenario.NumberedLine.{NumberedLine}
 use Rattle.scenario_text.specs.Scenario.{Parts}
 use Rattle.scenario_text.specs.Limits.{IsSetUp}
@@ -107,8 +107,8 @@ pub record NothingIsBegunBehindLosses : Type 0 where
       → BeginsNoneBehindLosses setup scenario.lines world
 
 -- Moves lead from a table as it is made to the world that is marked once the threads are done, and more moves on from it to what was done. Of all these
--- moves, one behind the other, each claim in vain is one, made where somebody had the chunk; and so is each flush request, made behind as many events as
--- it says, while no chunk was read.
+-- moves, one behind the other, each claim in vain is one, made where somebody had the chunk; and so are each flush request, made behind as many events as
+-- it says, while no chunk was read, and each answer, given behind as many calls as it says.
 abbrev pub LosesWhereHad : Setup → (stood world : World) → Type 0
 LosesWhereHad setup stood world =
     ∥ ((moves more : List Move) × (other : World) × IsSchedule setup (first_world setup) moves stood × IsSchedule setup stood more other
@@ -116,7 +116,9 @@ LosesWhereHad setup stood world =
     × ((place number : ℕ) (ask : Ask) → At (writer world place).asked number ask → ask.won ≡ false
     → FindsHad setup (moves ++ more) (first_world setup) other place number ask)
     × ((number events : ℕ) → At world.service.letters number (Asked events)
-    → FindsRequest setup (moves ++ more) (first_world setup) other number events)) ∥₁
+    → FindsRequest setup (moves ++ more) (first_world setup) other number events)
+    × ((place number : ℕ) (reply : Reply) → At (writer world place).letters.answers number reply
+    → FindsAnswer setup (moves ++ more) (first_world setup) other place number reply)) ∥₁
 
 -- So it is in each run, whole or up to a write that failed, in the reads of its lines or in those of the end.
 pub record LostClaimsFindHad : Type 0 where

@@ -61,7 +61,8 @@ pub fn nothing_is_begun_behind_losses()
 {}
 
 /// A schedule leads to what was done in a run, by way of the world in which the threads were done, and
-/// each claim in vain of it was made where somebody had the chunk, each request where it says.
+/// each claim in vain of it was made where somebody had the chunk, each request and answer where it
+/// says.
 pub fn lost_claims_find_had()
     ensures { LostClaimsFindHad }
 {}
