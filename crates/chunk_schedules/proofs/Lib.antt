@@ -7,3 +7,6 @@ pub mod TakenLemmas
 pub mod ReadLemmas
 pub mod RequestLemmas
 pub mod AnswerLemmas
+pub mod GrowLemmas
+pub mod FreedLemmas
+pub mod FirstWinLemmas

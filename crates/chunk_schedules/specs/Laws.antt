@@ -1,10 +1,10 @@
 -- The laws of schedules that hold on each table of chunks, whatever is read from it.
-use Rattle.std.specs.Prelude.{◌≡◌, ◌⊎◌, ℕ, ◌<◌, ◌≤◌, true, false, List, [], ◌∷◌, ◌++◌, length}
+use Rattle.std.specs.Prelude.{◌≡◌, ◌⊎◌, ℕ, ◌<◌, ◌≤◌, true, false, List, [], ◌∷◌, ◌++◌, length, take}
 use Rattle.chunk_plain.specs.Setup.{Setup, sequence_of}
-use Rattle.chunk_plain.specs.Views.{At, Ask, Asked, Content, Reply, taken_of}
+use Rattle.chunk_plain.specs.Views.{At, Ask, Asked, Content, Noted, Reply, taken_of}
 use Rattle.chunk_plain.specs.World.{World, Reading, Unclaimed, status, writer}
 use Rattle.chunk_plain.specs.Plain.{first_world}
-use Rattle.chunk_plain.specs.Owned.{IsOwned}
+use Rattle.chunk_plain.specs.Owned.{IsOwned, won_chunks}
 use Rattle.chunk_plain.specs.Words.{is_arrival_noted}
 use Rattle.chunk_schedules.specs.Moves.{Move, Claims, Answers, Requests, MayAnswer}
 use Rattle.chunk_schedules.specs.Schedules.{IsSchedule}
@@ -101,3 +101,23 @@ abbrev pub AnswersAreGivenInTurn : Type 0
 AnswersAreGivenInTurn = (setup : Setup) (moves : List Move) (world : World) → IsSchedule setup (first_world setup) moves world
     → (place number : ℕ) (reply : Reply) → At (writer world place).letters.answers number reply
     → FindsAnswer setup moves (first_world setup) world place number reply
+
+-- Some chunk arrived before any of the writer at this place: its arrival stands in a front of what was noted, in which none of that writer's
+-- stands.
+pub record ArrivesBefore (notes : List Noted) (place : ℕ) : Type 0 where
+  pub before : List Noted
+  pub after : List Noted
+  pub notes_are : notes ≡ before ++ after
+  pub other : ℕ
+  pub position : ℕ
+  pub arrived : is_arrival_noted (sequence_of other) position before ≡ true
+  pub none_yet : (number : ℕ) → is_arrival_noted (sequence_of place) number before ≡ false
+
+-- Where a writer claimed a chunk in vain, and the first claim that it won is a later one of the same chunk, somebody else's chunk arrived before
+-- any of its own: the one whose freeing it had waited for.
+abbrev pub FirstWinsFollowArrivals : Type 0
+FirstWinsFollowArrivals = (setup : Setup) (moves : List Move) (world : World) → IsSchedule setup (first_world setup) moves world
+    → (place i j : ℕ) (lost won : Ask) → At (writer world place).asked i lost → lost.won ≡ false
+    → At (writer world place).asked j won → won.won ≡ true → lost.chunk ≡ won.chunk → i < j
+    → won_chunks (take j (writer world place).asked) ≡ []
+    → ArrivesBefore world.service.events place

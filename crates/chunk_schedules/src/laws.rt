@@ -1,6 +1,7 @@
 //! The laws: contracts of functions with nothing to do.
 ghost use Rattle.chunk_schedules.specs.Laws.{SchedulesJoin, SchedulesKeepOwnership, ClaimsInVainFindHad};
 ghost use Rattle.chunk_schedules.specs.Laws.{AtMostOneIsRead, FreedHaveArrived, ArrivedWereTaken, RequestsAreMadeInTurn, AnswersAreGivenInTurn};
+ghost use Rattle.chunk_schedules.specs.Laws.{FirstWinsFollowArrivals};
 
 /// Schedules go on one behind another, and each front of a schedule is one.
 pub fn schedules_join()
@@ -41,4 +42,9 @@ pub fn requests_are_made_in_turn()
 /// many.
 pub fn answers_are_given_in_turn()
     ensures { AnswersAreGivenInTurn }
+{}
+
+/// Whom a writer has waited for has its chunk arrive before any of the writer's own.
+pub fn first_wins_follow_arrivals()
+    ensures { FirstWinsFollowArrivals }
 {}

@@ -8,6 +8,7 @@
 mod laws;
 
 pub use laws::{
-    arrived_were_taken, at_most_one_is_read, claims_in_vain_find_had, freed_have_arrived,
-    requests_are_made_in_turn, schedules_join, schedules_keep_ownership,
+    answers_are_given_in_turn, arrived_were_taken, at_most_one_is_read, claims_in_vain_find_had,
+    first_wins_follow_arrivals, freed_have_arrived, requests_are_made_in_turn, schedules_join,
+    schedules_keep_ownership,
 };
