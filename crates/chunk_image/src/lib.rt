@@ -7,8 +7,6 @@
 mod image;
 mod iterate;
 mod read;
-#[cfg(test)]
-mod tests;
 
 pub use image::{Image, ImageFault};
 pub use iterate::FragmentIter;

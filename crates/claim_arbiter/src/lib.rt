@@ -6,7 +6,5 @@
 #![tactic(auto)]
 
 mod arbiter;
-#[cfg(test)]
-mod tests;
 
 pub use arbiter::{Arbiter, claim_over};

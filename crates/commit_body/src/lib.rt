@@ -10,8 +10,6 @@ mod body;
 mod closed;
 mod hole;
 mod patch_list;
-#[cfg(test)]
-mod tests;
 
 pub use body::{CommitBody, MAX_PATCHES, Patch};
 pub use closed::Closed;

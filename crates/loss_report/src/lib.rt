@@ -10,8 +10,6 @@ mod fields;
 pub mod laws;
 mod raws;
 mod report;
-#[cfg(test)]
-mod tests;
 
 pub use counts::{Done, SequenceCounts};
 pub use raws::{RawAnswer, RawLine, put_raw};

@@ -10,8 +10,6 @@ mod chunk_state;
 mod geometry;
 pub mod masks;
 mod page_word;
-#[cfg(test)]
-mod tests;
 
 pub use chunk_header::{ChunkHeader, FIRST_CONTINUES, LAST_CONTINUES, MAX_FLAGS, NEEDS_PATCHING};
 pub use chunk_state::ChunkState;

@@ -6,7 +6,5 @@
 #![tactic(auto)]
 
 mod take;
-#[cfg(test)]
-mod tests;
 
 pub use take::take_scenario;

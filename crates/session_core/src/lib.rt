@@ -7,8 +7,6 @@
 
 mod answers;
 mod session;
-#[cfg(test)]
-mod tests;
 
 pub use answers::{Answer, SessionFault, SessionState};
 pub use session::Session;

@@ -8,8 +8,6 @@ mod count;
 mod put;
 mod summary;
 mod tally;
-#[cfg(test)]
-mod tests;
 
 pub use count::{SummaryFault, summarize};
 pub use put::put_summary;

@@ -8,8 +8,6 @@
 mod laws;
 mod read;
 mod redundant;
-#[cfg(test)]
-mod tests;
 mod write;
 
 pub use laws::{

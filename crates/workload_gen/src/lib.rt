@@ -6,8 +6,6 @@
 
 mod batch;
 mod draw;
-#[cfg(test)]
-mod tests;
 mod workload;
 
 pub use workload::generate;

@@ -4,7 +4,7 @@ ghost use Rattle.std.specs.List.{list_any};
 ghost use Rattle.trace_model.specs.Images as model;
 ghost use Rattle.trace_model.specs.Fragments.{ReadsAs};
 
-use super::*;
+use chunk_image::{Fragment, Image, ImageFault};
 use std::test::Fail;
 use trace_base::limits::MAX_INPUT;
 

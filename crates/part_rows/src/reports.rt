@@ -1,7 +1,7 @@
 //! A report whole, and one that its sink cuts short; and the same with lines `raw`.
-use crate::{RawAnswer, RawLine, SequenceCounts, put_raw, put_report};
 use byte_io::memory::MemSink;
 use byte_io::put::WriteFault;
+use loss_report::{RawAnswer, RawLine, SequenceCounts, put_raw, put_report};
 use std::test::Fail;
 use trace_base::policy::FullPolicy;
 use trace_buffer::{Arrived, BufferCounts};

@@ -1,6 +1,6 @@
 //! The numbers of the format's tables, the words of a chunk's life, and the bytes of two headers.
-use crate::masks::{begin_mask, claim_mask, complete_mask, release_mask, take_mask};
-use crate::{
+use page_geometry::masks::{begin_mask, claim_mask, complete_mask, release_mask, take_mask};
+use page_geometry::{
     ChunkHeader, ChunkState, FIRST_CONTINUES, Geometry, GeometryFault, LAST_CONTINUES, PageWord,
 };
 use std::test::Fail;

@@ -1,6 +1,8 @@
 //! Encodings from outside: of the protocol-buffers documentation, and of the powers of 128 and 2
 //! worked by hand.
-use super::*;
+use wire_varint::{
+    VarintFault, get_redundant, get_varint, put_redundant, put_tag, put_varint, varint_len,
+};
 
 static SHORTEST: [(u64, &[u8]); 12] = [
     (0, &[0x00]),

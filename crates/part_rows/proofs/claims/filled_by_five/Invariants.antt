@@ -1,7 +1,7 @@
 use Rattle.std.proofs.Common.{◌≡◌, ℕ, ◌<◌, ◌≤◌, []}
 use Rattle.chunk_plain.specs.World.{writer}
 use Rattle.chunk_plain.specs.Words.{IsAtRest}
-use Rattle.claim_arbiter.proofs.tests.filled_by_five.Given as goal
+use Rattle.part_rows.proofs.claims.filled_by_five.Given as goal
 
 -- the set-up stays, and the writers that haven't asked yet have begun nothing
 abbrev pub invariant-loop-place : goal.invariant-loop-place

@@ -1,6 +1,6 @@
 //! Lives of a patch list, worked by hand.
-use super::*;
 use arrayvec::ArrayVec;
+use commit_body::{Closed, CommitBody, Patch, PatchList};
 use std::test::Fail;
 
 enum Step {

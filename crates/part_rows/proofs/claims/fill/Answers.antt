@@ -7,7 +7,7 @@ use Rattle.chunk_plain.specs.Drafts.{draft_at, published, IsHolding}
 use Rattle.chunk_plain.proofs.Holding.{redrafts_holds, published_more}
 use Rattle.chunk_plain.proofs.SeatSteps.{steps_follow}
 use Rattle.claim_arbiter.proofs.Turns.{turn_sealed}
-use Rattle.claim_arbiter.proofs.tests.fill.Goals as goal
+use Rattle.part_rows.proofs.claims.fill.Goals as goal
 
 pub publish-requires-clause-may : goal.publish-requires-clause-may
 publish-requires-clause-may g c =

@@ -1,7 +1,7 @@
 use Rattle.std.proofs.Common.{◌≡◌}
 use Rattle.std.specs.List.{list_any}
 use Rattle.trace_model.specs.Images as model
-use Rattle.chunk_image.proofs.tests.has_mark.Given as goal
+use Rattle.part_rows.proofs.images.has_mark.Given as goal
 
 -- a mark is among those left where one is among all
 abbrev pub invariant-loop-fragment : goal.invariant-loop-fragment

@@ -6,8 +6,8 @@ ghost use Rattle.chunk_plain.specs.Owned.{held_count};
 ghost use Rattle.chunk_plain.specs.Meaning.{IsWriterStep};
 ghost use Rattle.claim_arbiter.specs.Claiming.{range_in};
 
-use crate::{Arbiter, claim_over};
 use chunk_plain::{PlainTable, PlainWriter, ProducerSpec, Words};
+use claim_arbiter::{Arbiter, claim_over};
 use page_geometry::Geometry;
 use std::alloc::Global;
 use std::marker::Brand;

@@ -1,9 +1,9 @@
 //! Texts with what is read of them, up to the line of the first fault.
 ghost use Rattle.std.specs.Prelude.{◌<◌, length};
 
-use super::*;
 use std::alloc::{AllocError, Global};
 use std::test::Fail;
+use text_form::{BadText, TextItem, TextReader, TextValue};
 
 fn put_value(shown: &mut Vec<u8>, value: TextValue) -> Result<(), AllocError> {
     match value {

@@ -2,7 +2,7 @@
 ghost use Rattle.std.specs.Prelude.{◌≡◌, ◌≤◌, IfOk};
 ghost use Rattle.session_core.specs.declared.answers.SessionState.TheVariants.{Started};
 
-use crate::{Session, SessionFault, SessionState};
+use session_core::{Session, SessionFault, SessionState};
 use std::test::Fail;
 use trace_base::policy::{WriterPolicy, WriterSpec};
 

@@ -1,8 +1,8 @@
 //! Worked workloads.
-use crate::workload::generate;
 use byte_io::memory::MemSink;
 use byte_io::put::WriteFault;
 use std::test::Fail;
+use workload_gen::generate;
 
 struct Row {
     number: u64,

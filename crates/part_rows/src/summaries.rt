@@ -1,9 +1,9 @@
 //! A summary of a trace by hand.
-use super::*;
 use byte_io::memory::MemSink;
 use byte_io::put::WriteFault;
 use std::test::Fail;
 use trace_file::TraceFault;
+use trace_summary::{SummaryFault, put_summary, summarize};
 
 const TRACE: &[u8] =
     b"\x0A\x04\x40\x05\x50\x03\x08\x01\x0A\x07\x40\x05\x50\x02\xD0\x02\x01\x0A\x00\x0A\x05\x50\x03\xD0\x02\x02";

@@ -7,7 +7,7 @@ use Rattle.chunk_plain.specs.Views.{WriterView, newcomer, BegunChunk}
 use Rattle.chunk_plain.specs.World.{World, writer, nowhere}
 use Rattle.chunk_plain.specs.Owned.{held_count}
 use Rattle.chunk_plain.proofs.MadeLemmas.{all_same, BeginsAtNought, from_nought}
-use Rattle.claim_arbiter.proofs.tests.filled_by_five.Goals as goal
+use Rattle.part_rows.proofs.claims.filled_by_five.Goals as goal
 use Rattle.trace_base.specs.Ids.{id_of}
 use Rattle.trace_base.proofs.IdLemmas.{id_from_nought}
 

@@ -1,9 +1,9 @@
 //! A text that comes in pieces says what it says at once, wherever it is cut; and a fault behind a refused line counts.
 ghost use Rattle.std.specs.Prelude.{◌<◌};
 
-use crate::take_scenario;
 use byte_io::fill::FillFault;
 use byte_io::script::ScriptSource;
+use scenario_input::take_scenario;
 use scenario_text::{Reason, ScenarioFault, read_scenario};
 use std::alloc::{AllocError, Global};
 use std::process::Abort;
