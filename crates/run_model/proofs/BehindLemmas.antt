@@ -46,13 +46,34 @@ some_rounds Stalls = omega arith
 some_rounds (StallsThenDrops tries) = omega arith
 
 -- what a writer has begun is of its producer
-own_at : (setup : Setup) (producer : ℕ) (begun : List BegunChunk) → AreOwnChunks setup producer begun → (j chunk : ℕ) → At (map chunk_of begun) j chunk
+pub own_at : (setup : Setup) (producer : ℕ) (begun : List BegunChunk) → AreOwnChunks setup producer begun → (j chunk : ℕ) → At (map chunk_of begun) j chunk
     → IsChunkOf setup producer chunk
 own_at setup producer [] own j chunk at = absurd (some-ne-none chunk (sym at))
 own_at setup producer (Held other draft ∷ begun) own zero chunk at = subst (IsChunkOf setup producer) (some-injective other chunk at) own.0
 own_at setup producer (Held other draft ∷ begun) own (suc j) chunk at = own_at setup producer begun own.1 j chunk at
 own_at setup producer (Completed other content ∷ begun) own zero chunk at = subst (IsChunkOf setup producer) (some-injective other chunk at) own.0
 own_at setup producer (Completed other content ∷ begun) own (suc j) chunk at = own_at setup producer begun own.1 j chunk at
+
+module _ (setup : Setup) (place : ℕ) (view : WriterView) (calls behind : ℕ) (round : HasVainRounds setup place view calls behind) where
+  -- its claim in the first round stands among those of the front
+  pub lost_here : (chunk : ℕ) → IsChunkOf setup (producer_of setup place) chunk
+      → (n : ℕ) × (ask : Ask) × At round.front.asked n ask × (ask.won ≡ false) × (ask.chunk ≡ chunk)
+  lost_here chunk own = by_rounds round.rounds.rounds round.rounds.count_is round.rounds.each round.rounds.asks_are
+    where
+      by_rounds : (rounds : List (List ℕ)) → length rounds ≡ rounds_for (spec_at setup.writers place).policy
+          → All (λ (words : List ℕ). (length words ≡ (range_of setup (producer_of setup place)).count) × AllClaimed setup (range_of setup (producer_of setup place)).first words) rounds
+          → round.front.asked ≡ round.rounds.before ++ flat_map (lost_asks calls (range_of setup (producer_of setup place)).first) rounds
+          → (n : ℕ) × (ask : Ask) × At round.front.asked n ask × (ask.won ≡ false) × (ask.chunk ≡ chunk)
+      by_rounds [] none each is = absurd (let some = some_rounds (spec_at setup.writers place).policy in omega (arith, none, some))
+      by_rounds (words ∷ rounds) count each is =
+          let first : ℕ = (range_of setup (producer_of setup place)).first in
+          let later : List Ask = flat_map (lost_asks calls first) rounds in
+          let least = own.least in let below = own.below in
+          let many = (All-head (λ (ws : List ℕ). (length ws ≡ (range_of setup (producer_of setup place)).count) × AllClaimed setup first ws) words rounds each).0 in
+          let lost = lost_at calls first words (chunk - first) (omega (arith, least, below, many)) in
+          let there = at_back round.rounds.before (lost_asks calls first words ++ later) (chunk - first) lost.0
+          (at_front (lost_asks calls first words) later (chunk - first) lost.0 lost.1) in
+          (there.0, lost.0, subst (λ (l : List Ask). At l there.0 lost.0) (sym is) there.1, lost.2, lost.3 ∙ omega (arith, least))
 
 module _ (scenario : Parts) (setup : Setup) (world : World) (closed : Bool) (done : HasDoneAll scenario setup world closed)
     (collected : CollectedByLines setup scenario.lines done.stood.service) where
@@ -101,26 +122,6 @@ module _ (scenario : Parts) (setup : Setup) (world : World) (closed : Bool) (don
 
   module _ (order : AreInOrder world.writers) (place calls behind : ℕ) (round : HasVainRounds setup place (writer world place) calls behind)
       (inside : place < length setup.writers) (nobody : may_be_collected setup scenario.lines (producer_of setup place) ≡ false) where
-    -- its claim in the first round stands among those of the front
-    pub lost_here : (chunk : ℕ) → IsChunkOf setup (producer_of setup place) chunk
-        → (n : ℕ) × (ask : Ask) × At round.front.asked n ask × (ask.won ≡ false) × (ask.chunk ≡ chunk)
-    lost_here chunk own = by_rounds round.rounds.rounds round.rounds.count_is round.rounds.each round.rounds.asks_are
-      where
-        by_rounds : (rounds : List (List ℕ)) → length rounds ≡ rounds_for (spec_at setup.writers place).policy
-            → All (λ (words : List ℕ). (length words ≡ (range_of setup (producer_of setup place)).count) × AllClaimed setup (range_of setup (producer_of setup place)).first words) rounds
-            → round.front.asked ≡ round.rounds.before ++ flat_map (lost_asks calls (range_of setup (producer_of setup place)).first) rounds
-            → (n : ℕ) × (ask : Ask) × At round.front.asked n ask × (ask.won ≡ false) × (ask.chunk ≡ chunk)
-        by_rounds [] none each is = absurd (let some = some_rounds (spec_at setup.writers place).policy in omega (arith, none, some))
-        by_rounds (words ∷ rounds) count each is =
-            let first : ℕ = (range_of setup (producer_of setup place)).first in
-            let later : List Ask = flat_map (lost_asks calls first) rounds in
-            let least = own.least in let below = own.below in
-            let many = (All-head (λ (ws : List ℕ). (length ws ≡ (range_of setup (producer_of setup place)).count) × AllClaimed setup first ws) words rounds each).0 in
-            let lost = lost_at calls first words (chunk - first) (omega (arith, least, below, many)) in
-            let there = at_back round.rounds.before (lost_asks calls first words ++ later) (chunk - first) lost.0
-            (at_front (lost_asks calls first words) later (chunk - first) lost.0 lost.1) in
-            (there.0, lost.0, subst (λ (l : List Ask). At l there.0 lost.0) (sym is) there.1, lost.2, lost.3 ∙ omega (arith, least))
-
     -- a chunk that the writer has begun it had won before the round
     won_by_then : (id chunk : ℕ) → At (map chunk_of (writer world place).begun) id chunk
         → (n : ℕ) × (ask : Ask) × At round.front.asked n ask × (ask.won ≡ true) × (ask.chunk ≡ chunk)
@@ -128,7 +129,7 @@ module _ (scenario : Parts) (setup : Setup) (world : World) (closed : Bool) (don
         let lines = done.writers place inside in
         let own = own_at setup (producer_of setup place) (writer world place).begun lines.between.agrees.claims.own_chunks id chunk at in
         let entry = entry_at (writer world place).begun lines.none_held id chunk at in
-        let lost = lost_here chunk own in
+        let lost = lost_here setup place (writer world place) calls behind round chunk own in
         let stood : At (writer world place).asked lost.0 lost.1 =
         subst (λ (l : List Ask). At l lost.0 lost.1) (sym round.goes_on.asks_are) (at_front round.front.asked round.goes_on.asks lost.0 lost.1 lost.2) in
         let stands : StandsAt place order.order (asks_of place order.order) lost.0 lost.1 =

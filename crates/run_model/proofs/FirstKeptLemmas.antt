@@ -108,7 +108,7 @@ begins_first setup world place asked vain done = by_calls (writer world place).c
     by_calls (Flushed ∷ more) same is = absurd (let never : Flushed ∷ done_calls more ≡ Begun true ∷ asked = is in cc)
 
 -- one call alone, that drops a packet, leaves none that is kept
-one_dropped : (calls front more : List Call) → calls ≡ Begun false ∷ more → (behind : List Call) → calls ≡ front ++ behind → length front ≡ 1 → kept_of (packets_of front) ≡ []
+pub one_dropped : (calls front more : List Call) → calls ≡ Begun false ∷ more → (behind : List Call) → calls ≡ front ++ behind → length front ≡ 1 → kept_of (packets_of front) ≡ []
 one_dropped calls [] more is behind parts long = absurd (omega (arith, long))
 one_dropped calls (one ∷ next ∷ front) more is behind parts long = absurd (omega (arith, long))
 one_dropped calls (one ∷ []) more is behind parts long =
@@ -155,7 +155,7 @@ module _ (scenario : Parts) (setup : Setup) (world : World) (closed : Bool) (don
       -- whoever won the chunk was the writer itself, before its round
       clash : AreInOrder world.writers → ⊥
       clash order =
-          let lost = lost_here scenario setup world closed done collected order 0 0 1 round inside nobody chunk own in
+          let lost = lost_here setup 0 (writer world 0) 0 1 round chunk own in
           let stood : At (writer world 0).asked lost.0 lost.1 =
           subst (λ (l : List Ask). At l lost.0 lost.1) (sym round.goes_on.asks_are) (at_front round.front.asked round.goes_on.asks lost.0 lost.1 lost.2) in
           let stands : StandsAt 0 order.order (asks_of 0 order.order) lost.0 lost.1 =

@@ -15,6 +15,7 @@ pub mod RunLemmas
 pub mod VainLemmas
 pub mod FreshLemmas
 pub mod FirstKeptLemmas
+pub mod FirstWinLemmas
 pub mod WorkedLemmas
 pub mod WorkedAnswersLemmas
 pub mod BehindLemmas

@@ -34,11 +34,12 @@ use Rattle.run_model.proofs.LineLemmas.{lines_take_at_most}
 use Rattle.run_model.specs.Collected.{CollectedByLines, has_asker, may_be_collected, taken_by_lines, times_in}
 use Rattle.run_model.specs.Noted.{done_calls}
 use Rattle.run_model.specs.Settled.{HasDoneAll, IsRun, last_flushes}
-use Rattle.run_model.specs.Worked.{over_one_chunk, dropping, stalling, two_packets, flushed_between, beside_idle, one_of_each, collected_once, OneChunkHoldsOnePacket, OneCollectFreesOneChunk}
+use Rattle.run_model.specs.Worked.{over_one_chunk, dropping, stalling, two_packets, flushed_between, beside_idle, one_of_each, collected_once, filled_again, OneChunkHoldsOnePacket, OneCollectFreesOneChunk, ChunksArriveInTurn}
 use Rattle.run_model.proofs.AnsweredLemmas.{none_answered, out_none}
 use Rattle.run_model.proofs.AskedLemmas.{Flags, flag_after, flags_are, packet_flag, flags_behind}
 use Rattle.run_model.proofs.ChunkLemmas.{left_are_apart, uses_once}
 use Rattle.run_model.proofs.FirstKeptLemmas.{BeginsFirst, begins_first, begun_first, first_of_two}
+use Rattle.run_model.proofs.FirstWinLemmas.{waits_until_another_arrives}
 use Rattle.run_model.proofs.FreshLemmas.{AllSet, fresh_pages, one_page, whole_fresh}
 use Rattle.run_model.proofs.RunLemmas.{laid_out, wrote}
 
@@ -379,3 +380,22 @@ one_collect_frees_one_chunk first second third setup world run = by_count (cases
         let same = left_entry writers lines fits setup world _ done collected 0 1 2 inside of_one (omega (arith, most, times)) (omega (arith, most, times))
         (omega (arith, three)) (omega (arith, three)) in
         absurd (omega (arith, same))
+
+-- ---- a chunk that is filled again
+
+pub chunks_arrive_in_turn : ChunksArriveInTurn
+chunks_arrive_in_turn first second third setup world run more dropped some =
+    let done = run.before.done in let lines = (filled_again first second third).lines in let writers = dropping ∷ dropping ∷ [] in
+    let collected = (lines_take_at_most.run _ setup world run) in
+    let laid_is = done.setup_is.laid in
+    let within : 1 < length setup.writers = let many = ap (λ (s : Setup). length s.writers) laid_is in omega (arith, many) in
+    let to_one : producer_of setup 1 ≡ 1 = ap (λ (s : Setup). producer_of s 1) laid_is in
+    let fits = set_up writers lines (omega arith) (a_writer lines, (a_writer lines, tt)) in
+    let range = one_range writers done.setup_is.specs done.setup_is.made in
+    let least : (range_of setup 1).first ≡ 0 = ap (λ (s : Setup). (range_of s 1).first) laid_is ∙ range.0 in
+    let count : (range_of setup 1).count ≡ 1 = ap (λ (s : Setup). (range_of s 1).count) laid_is ∙ range.1 in
+    let own : IsChunkOf setup (producer_of setup 1) 0 =
+    subst (λ (n : ℕ). IsChunkOf setup n 0) (sym to_one) (record { least = omega (arith, least); below = omega (arith, least, count) }) in
+    waits_until_another_arrives (filled_again first second third) setup world _ done (laid writers lines fits setup world _ done collected) 1 0 within own
+    (λ chunk is. only_chunk writers lines fits setup world _ done collected chunk (subst (λ (n : ℕ). IsChunkOf setup n chunk) to_one is))
+    more dropped some

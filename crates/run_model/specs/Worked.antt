@@ -1,14 +1,17 @@
 -- Scenarios over one chunk, in which more packets can't be delivered than there are chunks: three in which nobody has it collected, and one with a
--- line that does.
-use Rattle.std.specs.Prelude.{◌≡◌, ℕ, ◌+◌, ◌<◌, true, false, List, [], ◌∷◌, map}
+-- line that does; and one in which it is filled again, and its chunks arrive in that order.
+use Rattle.std.specs.Prelude.{◌≡◌, ℕ, ◌+◌, ◌<◌, true, false, List, [], ◌∷◌, length, map}
 use Rattle.trace_base.specs.declared.policy.FullPolicy.TheVariants.{Ring}
 use Rattle.trace_base.specs.declared.policy.WriterPolicy.TheVariants.{Drops, Stalls}
 use Rattle.trace_base.specs.declared.policy.WriterSpec.{WriterSpec}
+use Rattle.trace_model.specs.Calls.{Call, Begun}
+use Rattle.trace_model.specs.Counts.{last_count}
 use Rattle.trace_model.specs.Packets.{Packet as PacketOf, packets_of, lost_count}
 use Rattle.field_tree.specs.Nodes.{Shown}
 use Rattle.chunk_plain.specs.Setup.{Setup}
 use Rattle.chunk_plain.specs.World.{World, writer}
-use Rattle.scenario_text.specs.declared.scenario.LineKind.TheVariants.{Packet, Flush, Collect}
+use Rattle.chunk_schedules.specs.Laws.{ArrivesBefore}
+use Rattle.scenario_text.specs.declared.scenario.LineKind.TheVariants.{Packet, Flush, Collect, Read}
 use Rattle.scenario_text.specs.declared.scenario.NumberedLine.{NumberedLine}
 use Rattle.scenario_text.specs.Scenario.{Parts}
 use Rattle.run_model.specs.Settled.{IsRun}
@@ -56,6 +59,13 @@ collected_once first second third =
     (record { line = 4; what = Packet 1 first } ∷ record { line = 5; what = Flush 1 } ∷ record { line = 6; what = Packet 1 second }
     ∷ record { line = 7; what = Flush 1 } ∷ record { line = 8; what = Packet 1 third } ∷ record { line = 9; what = Collect 1 } ∷ [])
 
+-- a packet of the first writer and two of the second, a line that collects, one that reads, and another that collects
+abbrev pub filled_again : (first second third : List Shown) → Parts
+filled_again first second third =
+    over_one_chunk (dropping ∷ dropping ∷ [])
+    (record { line = 5; what = Packet 1 first } ∷ record { line = 6; what = Packet 2 second } ∷ record { line = 7; what = Packet 2 third }
+    ∷ record { line = 8; what = Collect 1 } ∷ record { line = 9; what = Read 1 last_count } ∷ record { line = 10; what = Collect 1 } ∷ [])
+
 -- In each run of each of the first three a packet is lost: the account in which both are delivered is refused. Where a writer is alone it is the second of its two:
 -- the first was begun in the chunk, and the second dropped at its begin. (The newest packet stands first.)
 pub record OneChunkHoldsOnePacket : Type 0 where
@@ -72,3 +82,10 @@ pub record OneChunkHoldsOnePacket : Type 0 where
 abbrev pub OneCollectFreesOneChunk : Type 0
 OneCollectFreesOneChunk = (first second third : List Shown) (setup : Setup) (world : World) → IsRun (collected_once first second third) setup world
     → 0 < lost_count (packets_of (writer world 0).calls)
+
+-- In each run of this, where the second writer drops its first packet and yet begins a chunk, another chunk arrives before its own: the account in which
+-- that comes behind, though its freeing made room for it, is refused.
+abbrev pub ChunksArriveInTurn : Type 0
+ChunksArriveInTurn = (first second third : List Shown) (setup : Setup) (world : World) → IsRun (filled_again first second third) setup world
+    → (more : List Call) → (writer world 1).calls ≡ Begun false ∷ more → 0 < length (writer world 1).begun
+    → ∥ ArrivesBefore world.service.events 1 ∥₁

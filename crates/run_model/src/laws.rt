@@ -1,7 +1,7 @@
 //! The laws: contracts of functions with nothing to do.
 ghost use Rattle.run_model.specs.Laws.{EveryRunIsFaithful, EveryStoppedRunIsFaithful, EveryRunIsBalanced, EveryRunCountsPackets, EveryEnoughRunIsComplete, LinesTakeAtMost, LeftChunksAreApart, UncollectedChunksAreUsedOnce, NothingIsBegunBehindLosses, LostClaimsFindHad};
 ghost use Rattle.run_model.specs.FlushLaws.{EveryRunFlushIsSettled};
-ghost use Rattle.run_model.specs.Worked.{OneChunkHoldsOnePacket, OneCollectFreesOneChunk};
+ghost use Rattle.run_model.specs.Worked.{OneChunkHoldsOnePacket, OneCollectFreesOneChunk, ChunksArriveInTurn};
 ghost use Rattle.run_model.specs.WorkedAnswers.{WorkedAnswers};
 
 /// The records of a run are faithful to the packets that the lines have writers emit.
@@ -76,4 +76,10 @@ pub fn one_chunk_holds_one_packet()
 /// Over one chunk with one line that collects it three packets aren't all delivered: a scenario, computed.
 pub fn one_collect_frees_one_chunk()
     ensures { OneCollectFreesOneChunk }
+{}
+
+/// A chunk that was filled again arrives behind the one whose freeing made room for it: a scenario,
+/// computed.
+pub fn chunks_arrive_in_turn()
+    ensures { ChunksArriveInTurn }
 {}

@@ -11,9 +11,9 @@
 mod laws;
 
 pub use laws::{
-    every_enough_run_is_complete, every_run_counts_packets, every_run_flush_is_settled,
-    every_run_is_balanced, every_run_is_faithful, every_stopped_run_is_faithful,
-    left_chunks_are_apart, lines_take_at_most, lost_claims_find_had,
+    chunks_arrive_in_turn, every_enough_run_is_complete, every_run_counts_packets,
+    every_run_flush_is_settled, every_run_is_balanced, every_run_is_faithful,
+    every_stopped_run_is_faithful, left_chunks_are_apart, lines_take_at_most, lost_claims_find_had,
     nothing_is_begun_behind_losses, one_chunk_holds_one_packet, one_collect_frees_one_chunk,
     uncollected_chunks_are_used_once, worked_answers,
 };
