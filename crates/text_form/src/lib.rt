@@ -15,4 +15,3 @@ mod reader;
 pub use item::{BadText, TextItem, TextValue};
 pub use laws::{bad_lines_are_found, fields_are_read, items_tell_the_fields, texts_are_read};
 pub use reader::TextReader;
-
