@@ -1,5 +1,5 @@
 //! The calls on a table of chunks, whatever its words lie in.
-ghost use Rattle.std.specs.Prelude.{◌≡◌, ◌-◌, ◌<◌, ◌≤◌, true, false, Option, Some, [], length, vec_len, IfSome, IfNone, IfOk, IfErr, MatchOption};
+ghost use Rattle.std.specs.Prelude.{◌≡◌, ◌-◌, ◌<◌, ◌≤◌, true, false, Option, Some, length, vec_len, IfSome, IfNone, IfOk, IfErr, MatchOption};
 ghost use Rattle.page_geometry.specs.declared.chunk_header.TheConstants.{MAX_FLAGS};
 ghost use Rattle.page_geometry.specs.Header.{packed};
 ghost use Rattle.trace_base.specs.declared.limits.TheConstants.{MAX_FRAGMENTS};
@@ -145,7 +145,6 @@ pub trait Words {
     ) -> Result<Taken, NotComplete>
         requires seat { means.serves self.old seat.old }
         requires next { AsksForNext (means.setup self.old) (means.service_view self.old seat.old) chunk writer id }
-        requires none_out { (means.service_view self.old seat.old).reading ≡ [] }
         ensures taken { IfOk result (λ taken. TakesChunk (means.setup self.old) chunk writer id taken
             (means.service_view self.old seat.old) (means.service_view self.new seat.new)) }
         ensures other { IfErr result (λ found. FindsOther (means.setup self.old) chunk writer id found
