@@ -1,12 +1,12 @@
 -- What a schedule took and reads no longer has arrived.
-use Rattle.std.proofs.Common.{◌≡◌, ℕ, ◌+◌, ◌<◌, ◌⊎◌, inl, inr, true, List, [], ◌∷◌, ◌++◌, length, set, get_or, refl, sym, ap, ◌∙◌, subst, arith, ⊎_elim}
+use Rattle.std.proofs.Common.{◌≡◌, ℕ, ◌+◌, ◌<◌, inl, inr, true, List, [], ◌∷◌, ◌++◌, length, set, get_or, refl, sym, ap, ◌∙◌, subst, arith, ⊎_elim}
 use Rattle.std.proofs.lemmas.List.{get_or-set_same, get_or-set_other}
 use native.Mathlib.Decide.{ℕ_discrete}
 use mathlib.Core.Logic.{dite}
 use Rattle.chunk_plain.specs.Setup.{Setup, sequence_of}
-use Rattle.chunk_plain.specs.Views.{Content, Taken, none_taken, Noted, Commit, WriterView, ServiceView, taken_of}
+use Rattle.chunk_plain.specs.Views.{Content, Taken, none_taken, Noted, Commit, ServiceView, taken_of}
 use Rattle.chunk_plain.specs.World.{World, Status, Unclaimed, Claimed, Stamped, Writing, Ready, Reading, status, writer}
-use Rattle.chunk_plain.specs.Steps.{claims, learns, lets_go, notes, notes_commit, moved, served, serviced}
+use Rattle.chunk_plain.specs.Steps.{learns, lets_go, notes, notes_commit, served, serviced}
 use Rattle.chunk_plain.specs.Owned.{claims_of, IsOwned}
 use Rattle.chunk_plain.specs.Drafts.{draft_at}
 use Rattle.chunk_plain.specs.Plain.{first_world, read_as}
@@ -36,9 +36,9 @@ still_read world chunk to place position other content unread is =
     get_or-set_other world.chunks chunk other to Unclaimed (λ same. subst IsUnread (ap (status world) (sym same) ∙ is) unread) ∙ is
 
 -- a writer's move changes the status of no other chunk, and nothing that was noted
-moved_keeps : (world : World) (place chunk : ℕ) (view : WriterView) (to : Status) → IsUnread (status world chunk) → AllReadOrArrived world
-    → AllReadOrArrived (moved world place view chunk to)
-moved_keeps world place chunk view to unread all other number low =
+moved_keeps : (world : World) (chunk : ℕ) (to : Status) → IsUnread (status world chunk) → AllReadOrArrived world
+    → AllReadOrArrived (record world { chunks = set world.chunks chunk to })
+moved_keeps world chunk to unread all other number low =
     ⊎_elim
     (λ read. inl (read.0, read.1, still_read world chunk to other number read.0 read.1 unread read.2))
     (λ has. inr has)
@@ -47,7 +47,7 @@ moved_keeps world place chunk view to unread all other number low =
 claims_keep : (world : World) (place chunk found : ℕ) (is : Status) → status world chunk ≡ is → AllReadOrArrived world
     → AllReadOrArrived (claimed_in world place chunk found is)
 claims_keep world place chunk found Unclaimed free all =
-    moved_keeps world place chunk (claims (writer world place) chunk found true) (Claimed place) (subst IsUnread (sym free) tt) all
+    moved_keeps world chunk (Claimed place) (subst IsUnread (sym free) tt) all
 claims_keep world place chunk found (Claimed other) is all = all
 claims_keep world place chunk found (Stamped other position) is all = all
 claims_keep world place chunk found (Writing other position draft) is all = all
@@ -144,19 +144,19 @@ arrivals_keep setup world (Claims place chunk found) may owned all = claims_keep
 arrivals_keep setup world (Stamps place chunk) may owned all =
     let some = may.2 in
     let claimed = (owned.owns place chunk).claimed in
-    moved_keeps world place chunk _ _ (claimed_unread place (status world chunk) (omega (arith, some, claimed))) all
+    moved_keeps world chunk _ (claimed_unread place (status world chunk) (omega (arith, some, claimed))) all
 arrivals_keep setup world (Begins place chunk words) may owned all =
     let was = (owned.owns place chunk).stamp_is (length (writer world place).begun) may.2 in
-    moved_keeps world place chunk _ _ (subst IsUnread (sym was) tt) all
+    moved_keeps world chunk _ (subst IsUnread (sym was) tt) all
 arrivals_keep setup world (SetsHeader place chunk position head) may owned all =
     let was = (owned.owns place chunk).held_is position (draft_at (writer world place) position) may.2 in
-    moved_keeps world place chunk _ _ (subst IsUnread (sym was) tt) all
+    moved_keeps world chunk _ (subst IsUnread (sym was) tt) all
 arrivals_keep setup world (Publishes place chunk position index word) may owned all =
     let was = (owned.owns place chunk).held_is position (draft_at (writer world place) position) may.2 in
-    moved_keeps world place chunk _ _ (subst IsUnread (sym was) tt) all
+    moved_keeps world chunk _ (subst IsUnread (sym was) tt) all
 arrivals_keep setup world (Completes place chunk position content) may owned all =
     let was = (owned.owns place chunk).held_is position (draft_at (writer world place) position) may.2 in
-    moved_keeps world place chunk _ _ (subst IsUnread (sym was) tt) all
+    moved_keeps world chunk _ (subst IsUnread (sym was) tt) all
 arrivals_keep setup world (Calls place call) may owned all = all
 arrivals_keep setup world (Looks chunk word header found) may owned all = all
 arrivals_keep setup world (Takes place chunk word header) may owned all =
