@@ -8,7 +8,7 @@ use Rattle.service_core.specs.Agreement.{ServiceAgrees}
 use Rattle.thread_service.specs.Reading.{IsKnownWhole}
 use Rattle.thread_service.specs.Serving.{core_of, view_in}
 use Rattle.thread_service.proofs.PassLemmas.{passes_request}
-use Rattle.thread_service.proofs.Standing.{agrees_letters, answered_requests, history_letters, known_letters}
+use Rattle.thread_service.proofs.Standing.{agrees_letters, agrees_seat, answered_requests, history_letters, known_letters}
 use Rattle.thread_service.proofs.service.Service.request_passing.Goals as goal
 
 -- a refused one leaves the service and the pass as they were, compared
@@ -22,6 +22,12 @@ returns-in_err-flush-clause-passes c =
       passes = passes_request (setup_in c.args.table.now) (core_of c.args.self.now) passed passed (known_by_pass c.compare.new.pass) c.requires.serves.known (goes_same passed)
           (ap history_of c.compare.ensures.known);
     }
+
+-- compared, the service agrees as it did
+pub request_flush-requires-clause-agrees : goal.request_flush-requires-clause-agrees
+request_flush-requires-clause-agrees c =
+    agrees_seat (setup_in c.args.table.now) (view_in c.args.self.now) (known_by_service c.compare.new.seat) c.args.self.now.core c.compare.new.seat
+    c.compare.ensures.view c.requires.serves.serves.agrees
 
 -- the session's own call leaves the service as it agreed, reading no chunk
 pub note_request-requires-clause-none_read : goal.note_request-requires-clause-none_read
