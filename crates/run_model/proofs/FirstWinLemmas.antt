@@ -37,23 +37,25 @@ record FirstWin (asks : List Ask) : Type 0 where
   pub won : ask.won ≡ true
   pub none : won_chunks (take at asks) ≡ []
 
+-- the one that stands first, or one behind it
+first_or_later : (first : Ask) (asks : List Ask) → (0 < length (won_chunks asks) → FirstWin asks) → 0 < length (won_chunks (first ∷ asks))
+    → (won : Bool) → first.won ≡ won → FirstWin (first ∷ asks)
+first_or_later first asks later some true won = record { at = 0; ask = first; there = refl; won = won; none = refl }
+first_or_later first asks later some false lost =
+    let skips : won_chunks (first ∷ asks) ≡ won_chunks asks = ap (λ (b : Bool). cond b (first.chunk ∷ won_chunks asks) (won_chunks asks)) lost in
+    let long = ap (λ (chunks : List ℕ). length chunks) skips in
+    let rest = later (omega (arith, some, long)) in
+    record {
+      at = suc rest.at;
+      ask = rest.ask;
+      there = rest.there;
+      won = rest.won;
+      none = ap (λ (b : Bool). cond b (first.chunk ∷ won_chunks (take rest.at asks)) (won_chunks (take rest.at asks))) lost ∙ rest.none;
+    }
+
 first_win : (asks : List Ask) → 0 < length (won_chunks asks) → FirstWin asks
 first_win [] some = absurd (omega (arith, some))
-first_win (first ∷ asks) some = by_won first.won refl
-  where
-    by_won : (won : Bool) → first.won ≡ won → FirstWin (first ∷ asks)
-    by_won true won = record { at = 0; ask = first; there = refl; won = won; none = refl }
-    by_won false lost =
-        let skips : won_chunks (first ∷ asks) ≡ won_chunks asks = ap (λ (b : Bool). cond b (first.chunk ∷ won_chunks asks) (won_chunks asks)) lost in
-        let long = ap (λ (chunks : List ℕ). length chunks) skips in
-        let rest = first_win asks (omega (arith, some, long)) in
-        record {
-          at = suc rest.at;
-          ask = rest.ask;
-          there = rest.there;
-          won = rest.won;
-          none = ap (λ (b : Bool). cond b (first.chunk ∷ won_chunks (take rest.at asks)) (won_chunks (take rest.at asks))) lost ∙ rest.none;
-        }
+first_win (first ∷ asks) some = first_or_later first asks (λ more. first_win asks more) some first.won refl
 
 no_entry : (begun : List BegunChunk) → length begun ≡ 0 → map chunk_of begun ≡ []
 no_entry [] none = refl
