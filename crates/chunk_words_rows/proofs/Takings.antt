@@ -1,9 +1,10 @@
 -- The service takes a chunk of the first writer, notes that it arrived, and lets it go.
-use Rattle.std.proofs.Common.{◌≡◌, ℕ, ◌+◌, ◌<◌, Option, List, [], ◌∷◌, ◌++◌, length, sym, ap, subst, ◌∙◌, arith, get_or-set_same, length-set}
+use Rattle.std.proofs.Common.{◌≡◌, ℕ, ◌+◌, ◌-◌, ◌<◌, ◌≤◌, Option, List, [], ◌∷◌, ◌++◌, length, sym, ap, subst, ◌∙◌, arith, get_or-set_same, length-set}
 use Rattle.std.proofs.lemmas.Bool.Decides.{nat_tests}
-use Rattle.chunk_plain.specs.Views.{Content, Found, Taken, none_taken, Noted, ServiceView, taken_of}
+use Rattle.chunk_plain.specs.Views.{Arrive, Content, Found, Taken, none_taken, Noted, ServiceView, taken_of}
 use Rattle.chunk_plain.specs.Steps.{without, looks_at, takes_in, learns, lets_go, notes}
-use Rattle.chunk_plain.specs.Words.{AllArrived}
+use Rattle.chunk_plain.specs.Words.{AllArrived, LacksArrival}
+use Rattle.chunk_plain.proofs.ArrivedLemmas.{all_arrived}
 use Rattle.chunk_words.specs.declared.seats.ServiceSeat.{ServiceSeat}
 use Rattle.chunk_words.specs.Knows.{service_of}
 use Rattle.chunk_words_rows.specs.Page.{HasTaken}
@@ -47,3 +48,10 @@ served old took new chunk taken_chunk word header count found content note has s
       ∙ (ap (λ (l : List ℕ). without chunk (l ++ chunk ∷ [])) has.none_out ∙ none_left chunk)));
   arrived = arrived;
 }
+
+-- behind the note that the chunk arrived which was taken last, all that was taken has
+pub arrives : (view : ServiceView) (writer sequence position : ℕ) → 1 ≤ writer → sequence ≡ writer + 1 → LacksArrival view (writer - 1) position
+    → AllArrived (notes view (Arrive sequence position))
+arrives view writer sequence position least is lacks =
+    let same : writer - 1 + 2 ≡ sequence = omega (arith, least, is) in
+    subst (λ (s : ℕ). AllArrived (notes view (Arrive s position))) same (all_arrived view (writer - 1) position [] lacks.others)

@@ -7,6 +7,7 @@ use Rattle.chunk_plain.specs.Drafts.{draft_at, published}
 use Rattle.chunk_plain.specs.Words.{HasClaimed, completed_content}
 use Rattle.chunk_plain.proofs.Holding.{claims_has, begins_holds, redrafts_holds, published_more}
 use Rattle.chunk_plain.specs.Setup.{Setup, from_of}
+use Rattle.chunk_plain.proofs.SeatSteps.{steps_follow}
 use Rattle.chunk_words_rows.proofs.Begun.{round_any, round_held}
 use Rattle.chunk_words_rows.proofs.threads.fill.Goals as goal
 use Rattle.trace_base.specs.Ids.{id_of}
@@ -76,3 +77,12 @@ returns-clause-none_held g c =
     (ap (λ (v : WriterView). v.begun) won.view) c.requires.next c.begin-held.ensures.held.chunk_is held_is chunk_is token_is
     c.begin-held.ensures.view.view c.publish.ensures.view.view c.complete.ensures.view in
     round_held old last c.in-Some.claimed.chunk content is c.requires.none_held
+
+-- the four calls in a row are a step of the writer's seat
+pub returns-clause-step : goal.returns-clause-step
+returns-clause-step g c =
+    let means = g.W.Words.means in
+    let then = steps_follow means c.args.table.now c.args.seat.now in
+    let begun = then c.claim_try.new.self c.claim_try.new.seat c.begin-held.new.self c.begin-held.new.seat c.in-Some.ensures.step c.begin-held.ensures.step in
+    let shown = then c.begin-held.new.self c.begin-held.new.seat c.publish.new.self c.publish.new.seat begun c.publish.ensures.step in
+    then c.publish.new.self c.publish.new.seat c.complete.new.self c.complete.new.seat shown c.complete.ensures.step
