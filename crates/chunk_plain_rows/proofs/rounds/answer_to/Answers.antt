@@ -79,7 +79,7 @@ drain-requires-clause-none_out c =
     ap (λ (s : ServiceView). s.reading) c.look.ensures.view.view ∙ ap (λ (s : ServiceView). s.reading) (two.1 ∙ (one.1 ∙ first))
 
 -- the service has taken nothing by then, of any writer
-none_then : (c : goal.After-look) (place : ℕ) → (taken_of c.look.new.self.told.world.service place).count ≡ 0
+none_then : (c : goal.After-service-3-1) (place : ℕ) → (taken_of c.look.new.self.told.world.service place).count ≡ 0
 none_then c place =
     let service = c.in_ok-table.service in
     let first = ap (λ (o : Option World). (unwrap_or o nowhere).service) c.in_ok-table.ensures.told in

@@ -27,6 +27,7 @@ take-requires-clause-next g c = record {
   least = first_of (search rules, grind (arith, common_steps));
   most = first_of (search rules, grind (arith, common_steps));
   id_is = first_of (search rules, grind (arith, common_steps));
+  none_read = first_of (search rules, grind (arith, common_steps));
 }
 
 pub first_six-requires : goal.first_six-requires
