@@ -1,5 +1,9 @@
 -- What the service took of each writer, call by call.
-use Rattle.std.proofs.Common.{◌≡◌, ℕ, ◌+◌, ◌<◌, zero, suc, List, length, set, get_or, replicate, refl, sym, subst, ◌∙◌}
+use Rattle.std.proofs.Common.{◌≡◌, ℕ, ◌+◌, ◌-◌, ◌<◌, ◌≤◌, zero, suc, List, [], length, set, get_or, replicate, refl, sym, subst, ◌∙◌, arith}
+use Rattle.chunk_plain.specs.Steps.{notes}
+use Rattle.chunk_plain.specs.Views.{Arrive, ServiceView}
+use Rattle.chunk_plain.specs.Words.{AllArrived, LacksArrival}
+use Rattle.chunk_plain.proofs.ArrivedLemmas.{all_arrived}
 use Rattle.chunk_plain.proofs.Lists.{changed}
 use Rattle.chunk_words.specs.declared.seats.ServiceSeat.{ServiceSeat}
 use Rattle.table_speed.specs.Taking.{HasTakenEach, HasTakenNone, TakesOne, TakesNone, count_of}
@@ -32,3 +36,10 @@ one_more counts old new place more inside is each one = record {
   none_out = one.none_out;
   arrived = one.arrived;
 }
+
+-- behind the note that the chunk arrived which was taken last, all that was taken has
+pub arrives : (view : ServiceView) (writer sequence position : ℕ) → 1 ≤ writer → sequence ≡ writer + 1 → LacksArrival view (writer - 1) position
+    → AllArrived (notes view (Arrive sequence position))
+arrives view writer sequence position least is lacks =
+    let same : writer - 1 + 2 ≡ sequence = omega (arith, least, is) in
+    subst (λ (s : ℕ). AllArrived (notes view (Arrive s position))) same (all_arrived view (writer - 1) position [] lacks.others)
