@@ -7,7 +7,7 @@ use Rattle.chunk_plain.specs.Views.{Content, Found, Noted, ServiceView, Taken, n
 use Rattle.chunk_plain.specs.Steps.{without, looks_at, takes_in, learns, notes, lets_go}
 use Rattle.chunk_plain.specs.Words.{AllArrived}
 use Rattle.chunk_plain.proofs.ArrivedLemmas.{arrived_alike}
-use Rattle.chunk_plain.specs.Meaning.{Meaning}
+use Rattle.chunk_plain.specs.Meaning.{IsWriterStep, Meaning}
 use Rattle.writer_speed.specs.Collecting.{IsCollecting}
 
 -- The first writer's row
@@ -41,6 +41,14 @@ module _ {T W S : Type 0} (means : Meaning T W S) where
     from = ap (λ (s : Setup). from_of s 0) same ∙ was.from;
     count = was.count ∙ ap (λ (l : List Taken). (get_or l 0 none_taken).count) (sym rows);
   }
+
+  -- a writer does something
+  pub collects_beside : (old : T) (writer : W) (new : T) (behind : W) (seat : S) (range : ChunkRange) (taken : ℕ) → IsWriterStep means old writer new behind
+      → IsCollecting means old seat range taken → IsCollecting means new seat range taken
+  collects_beside old writer new behind seat range taken step was =
+      let stays = step.service_stays seat was.seat_is in
+      collects_still old seat new seat range taken was stays.0 step.setup_stays (ap (λ (s : ServiceView). s.taken) stays.1) (ap (λ (s : ServiceView). s.reading) stays.1)
+      (ap (λ (s : ServiceView). s.events) stays.1)
 
   -- a chunk is taken, noted to have arrived, and let go
   pub collects_one : (old : T) (before : S) (new : T) (after : S) (range : ChunkRange) (taken : ℕ) → IsCollecting means old before range taken
